@@ -1,0 +1,2 @@
+pub mod VehicleNumbers
+pub mod PlaceVisits

@@ -1,0 +1,104 @@
+-- In a lawful plan of a simple problem each list has clients alone, and no more than there are.
+use Rattle.std.proofs.Common.{◌≡◌, ℕ, zero, suc, ◌+◌, ◌*◌, ◌<◌, ◌≤◌, Bool, true, false, ◌&&◌, cond, List, [], ◌∷◌, length, get_or, refl, arith}
+use Rattle.std.specs.Prelude.{◌==◌, All, count_by, nat_le, replicate, sum_by, zip}
+use Rattle.std.specs.List.{list_all, range_with_len}
+use Rattle.std.proofs.lemmas.Bool.Decides.{nat_tests}
+use Rattle.std.proofs.lemmas.List.Elements.{All-weaker}
+use Rattle.std.proofs.lemmas.List.FromFn.{length-range_with_len}
+use Rattle.std.proofs.lemmas.List.Sums.{AllPass-from_list_all, get_or-le-sum_by, sum_by-cons, sum_by-le, sum_by-le-sum_by}
+use Rattle.problem_data.specs.declared.problem.Problem.{Problem}
+use Rattle.problem_data.specs.declared.problem.VehicleType.{VehicleType}
+use Rattle.problem_data.specs.declared.visit.Visit.{Visit}
+use Rattle.problem_data.specs.declared.visit.Visit.TheVariants.{Client, Reload}
+use Rattle.problem_data.specs.Places.{client_places, is_client_place}
+use Rattle.routing_model.specs.Lawful.{is_allowed, names_place, names_places, reloads_as_allowed, visits_at_most_once}
+use Rattle.routing_model.specs.Routes.{Routes, is_visit_of, visit_count}
+use Rattle.vrplib_read.specs.Fleet.{plain_type}
+use Rattle.pyvrp.proofs.SimpleClients.{and-first, and-second, are_clients}
+
+both : (a b : Bool) → a ≡ true → b ≡ true → (a && b) ≡ true
+both true b h k = k
+both false b h k = h
+
+-- a list without reloads has clients alone
+allowed-clients : (p : Problem) (vehicles capacity : ℕ) (visits : List Visit) → list_all (names_place p) visits ≡ true →
+    list_all (is_allowed (plain_type vehicles capacity)) visits ≡ true → are_clients p visits ≡ true
+allowed-clients p vehicles capacity [] named allowed = refl
+allowed-clients p vehicles capacity (Client place ∷ rest) named allowed =
+    both (is_client_place p place) (are_clients p rest) (and-first (is_client_place p place) (list_all (names_place p) rest) named)
+    (allowed-clients p vehicles capacity rest (and-second (is_client_place p place) (list_all (names_place p) rest) named) allowed)
+allowed-clients p vehicles capacity (Reload depot ∷ rest) named allowed = cc
+
+-- the same of each list
+pub lists-clients : (p : Problem) (vehicles capacity n : ℕ) (routes : Routes) → length routes ≤ n → names_places p routes ≡ true →
+    list_all (λ (v : VehicleType × List Visit). reloads_as_allowed v.0 v.1) (zip (replicate n (plain_type vehicles capacity)) routes) ≡ true →
+    list_all (are_clients p) routes ≡ true
+lists-clients p vehicles capacity n [] few named allowed = refl
+lists-clients p vehicles capacity zero (visits ∷ rest) few named allowed = absurd (omega arith)
+lists-clients p vehicles capacity (suc n) (visits ∷ rest) few named allowed =
+    let t : VehicleType = plain_type vehicles capacity in
+    let others : Bool = list_all (λ (v : VehicleType × List Visit). reloads_as_allowed v.0 v.1) (zip (replicate n t) rest) in
+    let these : reloads_as_allowed t visits ≡ true = and-first (reloads_as_allowed t visits) others allowed in
+    both (are_clients p visits) (list_all (are_clients p) rest)
+    (allowed-clients p vehicles capacity visits (and-first (list_all (names_place p) visits) (names_places p rest) named) (and-first (list_all (is_allowed t) visits) _ these))
+    (lists-clients p vehicles capacity n rest (omega arith) (and-second (list_all (names_place p) visits) (names_places p rest) named) (and-second (reloads_as_allowed t visits) others allowed))
+
+-- a sum of sums
+sum_by-add : (f g : ℕ → ℕ) (ns : List ℕ) → sum_by (λ n. f n + g n) ns ≡ sum_by f ns + sum_by g ns
+sum_by-add f g [] = refl
+sum_by-add f g (n ∷ ns) =
+    let k : sum_by (λ n. f n + g n) ns ≡ sum_by f ns + sum_by g ns = sum_by-add f g ns in
+    let a : sum_by (λ n. f n + g n) (n ∷ ns) ≡ (f n + g n) + sum_by (λ n. f n + g n) ns = sum_by-cons (λ n. f n + g n) n ns in
+    let b : sum_by f (n ∷ ns) ≡ f n + sum_by f ns = sum_by-cons f n ns in
+    let c : sum_by g (n ∷ ns) ≡ g n + sum_by g ns = sum_by-cons g n ns in
+    omega arith
+
+-- a place of a range is met in it
+met_once : (place first count : ℕ) → first ≤ place → place < first + count → 1 ≤ sum_by (λ n. cond (place == n) 1 0) (range_with_len first count)
+met_once place first zero low high = absurd (omega arith)
+met_once place first (suc count) low high =
+    let a : sum_by (λ n. cond (place == n) 1 0) (range_with_len first (suc count)) ≡ cond (place == first) 1 0 + sum_by (λ n. cond (place == n) 1 0) (range_with_len (first + 1) count) =
+    sum_by-cons (λ n. cond (place == n) 1 0) first (range_with_len (first + 1) count) in
+    here_or_later place first (sum_by (λ n. cond (place == n) 1 0) (range_with_len first (suc count))) (sum_by (λ n. cond (place == n) 1 0) (range_with_len (first + 1) count)) low a
+    (λ above. met_once place (first + 1) count above (omega arith))
+  where
+    here_or_later : (place first all later : ℕ) → first ≤ place → all ≡ cond (place == first) 1 0 + later → (first + 1 ≤ place → 1 ≤ later) → 1 ≤ all
+    here_or_later place first all later low a after = grind (arith, nat_tests)
+
+-- how often a list names a client
+abbrev times_in : List Visit → ℕ → ℕ
+times_in visits client = count_by (is_visit_of client) visits
+
+-- a list of clients is no longer than the clients together are named in it
+length-named : (p : Problem) (visits : List Visit) → are_clients p visits ≡ true → length visits ≤ sum_by (times_in visits) (client_places p)
+length-named p [] clients = omega arith
+length-named p (Client place ∷ rest) clients =
+    let at : is_client_place p place ≡ true = and-first (is_client_place p place) (are_clients p rest) clients in
+    let one : 1 ≤ sum_by (λ n. cond (place == n) 1 0) (client_places p) = met_once place (length p.depots) (length p.clients) (grind (arith, nat_tests)) (grind (arith, nat_tests)) in
+    let others : length rest ≤ sum_by (times_in rest) (client_places p) = length-named p rest (and-second (is_client_place p place) (are_clients p rest) clients) in
+    let sum : sum_by (λ n. cond (place == n) 1 0 + times_in rest n) (client_places p) ≡ sum_by (λ n. cond (place == n) 1 0) (client_places p) + sum_by (times_in rest) (client_places p) =
+    sum_by-add (λ n. cond (place == n) 1 0) (times_in rest) (client_places p) in
+    let less : sum_by (λ n. cond (place == n) 1 0 + times_in rest n) (client_places p) ≤ sum_by (times_in (Client place ∷ rest)) (client_places p) =
+    sum_by-le-sum_by (λ n. cond (place == n) 1 0 + times_in rest n) (times_in (Client place ∷ rest)) (client_places p)
+    (λ n. let e : times_in (Client place ∷ rest) n ≡ cond (place == n) 1 0 + times_in rest n = sum_by-cons (λ visit. cond (is_visit_of n visit) 1 0) (Client place) rest in omega arith) in
+    omega arith
+length-named p (Reload depot ∷ rest) clients = cc
+
+-- each list is as short as the clients are many
+pub lists-short : (p : Problem) (routes : Routes) → visits_at_most_once p routes ≡ true → list_all (are_clients p) routes ≡ true →
+    All (λ visits. length visits ≤ length p.clients) routes
+lists-short p routes once clients i d inside =
+    let visits : List Visit = get_or routes i d in
+    let these : are_clients p visits ≡ true = AllPass-from_list_all (are_clients p) routes clients i d inside in
+    let a : length visits ≤ sum_by (times_in visits) (client_places p) = length-named p visits these in
+    let b : sum_by (times_in visits) (client_places p) ≤ sum_by (visit_count routes) (client_places p) =
+    sum_by-le-sum_by (times_in visits) (visit_count routes) (client_places p) (λ client. get_or-le-sum_by (λ (list : List Visit). times_in list client) routes i d inside) in
+    let c : sum_by (visit_count routes) (client_places p) ≤ length (client_places p) * 1 =
+    sum_by-le (visit_count routes) 1 (client_places p)
+    (All-weaker (λ client. nat_le (visit_count routes client) 1 ≡ true) (λ client. visit_count routes client ≤ 1) (λ client h. is_at_most (visit_count routes client) 1 h) (client_places p)
+    (AllPass-from_list_all (λ client. nat_le (visit_count routes client) 1) (client_places p) once)) in
+    let e : length (client_places p) ≡ length p.clients = length-range_with_len (length p.depots) (length p.clients) in
+    omega arith
+  where
+    is_at_most : (m n : ℕ) → nat_le m n ≡ true → m ≤ n
+    is_at_most m n h = grind (arith, nat_tests)

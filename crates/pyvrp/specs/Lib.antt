@@ -1,0 +1,9 @@
+pub mod Asked
+pub mod Holding
+pub mod InMemory
+pub mod Outside
+pub mod RandomPlan
+pub mod Readings
+pub mod Report
+pub mod Run
+pub mod Texts

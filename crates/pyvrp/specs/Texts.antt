@@ -1,0 +1,29 @@
+-- The texts that the program makes.
+use Rattle.std.specs.Prelude.{◌≡◌, ℕ, List, [], ◌∷◌}
+use Rattle.command_model.specs.Command.{Effects, effects_of}
+use Rattle.command_model.specs.FirstSearch.{first_search}
+use Rattle.command_model.specs.Outcomes as model
+use Rattle.command_model.specs.Words.{Asked, base_name}
+use Rattle.pyvrp.specs.declared.outcome.Outcome.{Outcome}
+use Rattle.pyvrp.specs.declared.run.Texts.{Texts}
+use Rattle.pyvrp.specs.Report.{StandsFor}
+use Rattle.pyvrp.specs.Run.{FilesOfCall, IsAnswer}
+
+-- the texts and the status are these effects
+pub record IsEffects (effects : Effects) (texts : Texts) : Type 0 where
+  pub out_is : texts.out.items ≡ effects.out
+  pub err_is : texts.err.items ≡ effects.err
+  pub status_is : texts.status ≡ effects.status
+
+-- the texts are those of a path's outcome
+abbrev pub TellsEffects : List ℕ → Outcome → Texts → Type 0
+TellsEffects path shown texts = (outcome : model.Outcome) → StandsFor outcome shown → IsEffects (effects_of ((base_name path, outcome) ∷ [])) texts
+
+-- the texts are those of what comes of the instance that is asked for
+pub record HasTextsOf (asked : Asked) (files : FilesOfCall) (texts : Texts) : Type 0 where
+  pub load : model.Load
+  pub outcome : model.Outcome
+  pub answer : IsAnswer files asked.path load
+  pub comes : model.ComesOf (first_search asked.seed) load outcome
+  pub feasible : model.IsFeasibleOutcome outcome
+  pub effects : IsEffects (effects_of ((base_name asked.path, outcome) ∷ [])) texts

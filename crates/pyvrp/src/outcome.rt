@@ -1,0 +1,27 @@
+//! What came of an instance.
+use problem_data::Text;
+use vrplib_read::Refusal;
+
+/// What a search found.
+#[derive(Debug, Drop)]
+pub struct Answer {
+    /// The cost of the best feasible solution, if one was found.
+    pub cost: Option<i128>,
+    /// The solution text of that solution, or nothing.
+    pub text: Text,
+    /// The iterations done.
+    pub iterations: u64,
+}
+
+/// What came of an instance.
+#[derive(Debug, Drop)]
+pub enum Outcome {
+    /// It could not be loaded.
+    Unreadable,
+    /// It has more bytes than the limit.
+    Oversized,
+    /// Its text is refused.
+    Refused(Refusal),
+    /// It was read and searched.
+    Solved(Answer),
+}

@@ -1,0 +1,177 @@
+//! The run of the command: from its words to its texts and its status.
+ghost use Rattle.std.specs.Prelude.{◌≡◌, ◌≢◌, IfErr, IfOk, map, string_bytes, true, false};
+ghost use Rattle.command_model.specs.Command.{Effects};
+ghost use Rattle.command_model.specs.Words.{asked};
+ghost use Rattle.pyvrp.specs.Asked.{shown};
+ghost use Rattle.vrplib_read.specs.Plain.{RefusesPlainly};
+ghost use Rattle.pyvrp.specs.Readings.{IsSimpleReading};
+ghost use Rattle.pyvrp.specs.Report.{IsRefusalOf};
+ghost use Rattle.pyvrp.specs.Run.{ComesOfBytes, ComesOfPath, Delivers, HasFault, HoldsWhole, IsGiven, IsUntouched, Runs, files_of, sink_of};
+ghost use Rattle.pyvrp.specs.Texts.{HasTextsOf, IsEffects, TellsEffects};
+
+use crate::first_search::answer_of;
+use crate::outcome::Outcome;
+use crate::outside::files::{Files, LoadFault};
+use crate::outside::sink::Sink;
+use crate::report::{error_text, output_text, status_of};
+use crate::words::{Asked, base_name, read_words};
+use problem_data::{NoMemory, Problem};
+use std::alloc::Global;
+use std::thread::Threads;
+use vrp_num::Rounding;
+use vrplib_read::{ReadFault, read_instance};
+
+/// The most bytes of an instance: 64 MiB.
+const LARGEST_FILE: u64 = 64 << 20;
+
+/// The line where the words are wrong.
+const WRONG_WORDS: &str = "pyvrp: wrong words\n";
+
+/// The status where the words are wrong.
+const WRONG: u8 = 2;
+
+/// The status for want of memory.
+pub const NO_MEMORY: u8 = 3;
+
+/// The status where an output failed.
+const FAILED_OUTPUT: u8 = 4;
+
+/// The texts and the status of a run.
+#[derive(Drop)]
+struct Texts {
+    out: Vec<u8>,
+    err: Vec<u8>,
+    status: u8,
+}
+
+/// The problem of a plain text, which is simple.
+fn simple_instance(alloc: Global, bytes: &[u8]) -> Result<Problem, ReadFault>
+    ensures simple { IfOk result (IsSimpleReading bytes.now) }
+    ensures refused { IfErr result (RefusesPlainly bytes.now) }
+{
+    read_instance(alloc, bytes, Rounding::Round)
+}
+
+/// The outcome of a refusal.
+fn refused(fault: ReadFault) -> Result<Outcome, NoMemory>
+    ensures { IfOk result (IsRefusalOf fault) }
+{
+    match fault {
+        ReadFault::Refused(refusal) => Ok(Outcome::Refused(refusal)),
+        ReadFault::NoMemory => Err(NoMemory),
+    }
+}
+
+/// Reads an instance's bytes and searches its problem.
+fn outcome_of_bytes<R: Threads + Sync>(
+    rt: &R,
+    alloc: Global,
+    bytes: &[u8],
+    seed: u32,
+) -> Result<Outcome, NoMemory>
+    ensures { IfOk result (ComesOfBytes seed bytes.now) }
+{
+    match simple_instance(alloc, bytes) {
+        Ok(problem) => {
+            let answer = answer_of(rt, alloc, problem, seed)?;
+            Ok(Outcome::Solved(answer))
+        }
+        Err(fault) => refused(fault),
+    }
+}
+
+/// Loads, reads and searches an instance.
+fn outcome_of_path<R: Threads + Sync, F: Files>(
+    rt: &R,
+    alloc: Global,
+    path: &str,
+    seed: u32,
+    files: &mut F,
+) -> Result<Outcome, NoMemory>
+    ensures found { IfOk result (ComesOfPath seed path.now (files_of (F.holding files.old) (F.faults files.old) (F.faults files.new))) }
+    ensures kept { F.holding files.new ≡ F.holding files.old }
+{
+    match files.load(path, LARGEST_FILE) {
+        Ok(bytes) => outcome_of_bytes(rt, alloc, bytes.as_slice(), seed),
+        Err(LoadFault::Failed) => Ok(Outcome::Unreadable),
+        Err(LoadFault::TooLong) => Ok(Outcome::Oversized),
+        Err(LoadFault::NoMemory) => Err(NoMemory),
+    }
+}
+
+/// The texts and the status that come of an instance.
+fn texts_of(alloc: Global, path: &str, outcome: &Outcome) -> Result<Texts, NoMemory>
+    ensures { IfOk result (TellsEffects path.now outcome.now) }
+{
+    let name = base_name(path);
+    Ok(Texts {
+        out: output_text(alloc, name, outcome)?,
+        err: error_text(alloc, name, outcome)?.into_bytes(),
+        status: status_of(outcome),
+    })
+}
+
+/// Loads, reads and searches the instance that is asked for, and makes its texts.
+fn texts_of_path<R: Threads + Sync, F: Files>(
+    rt: &R,
+    alloc: Global,
+    asked: &Asked<'_>,
+    files: &mut F,
+) -> Result<Texts, NoMemory>
+    ensures found { IfOk result (HasTextsOf (shown asked.now) (files_of (F.holding files.old) (F.faults files.old) (F.faults files.new))) }
+    ensures kept { F.holding files.new ≡ F.holding files.old }
+{
+    let outcome = outcome_of_path(rt, alloc, asked.path, asked.seed, files)?;
+    texts_of(alloc, asked.path, &outcome)
+}
+
+/// Puts the bytes, and says whether the sink took them all.
+fn put_all<S: Sink>(sink: &mut S, bytes: &[u8]) -> bool
+    ensures given { IsGiven bytes.now (sink_of (S.written sink.old) (S.written sink.new) (S.faults sink.old) (S.faults sink.new)) }
+    ensures whole { result ≡ true → HoldsWhole bytes.now (sink_of (S.written sink.old) (S.written sink.new) (S.faults sink.old) (S.faults sink.new)) }
+    ensures fault { result ≡ false → HasFault (sink_of (S.written sink.old) (S.written sink.new) (S.faults sink.old) (S.faults sink.new)) }
+{
+    sink.put(bytes).is_ok()
+}
+
+/// Puts the texts, errors first, and answers the status.
+fn deliver<O: Sink, E: Sink>(texts: &Texts, out: &mut O, err: &mut E) -> u8
+    ensures { (effects : Effects) → IsEffects effects texts.now → Delivers effects (sink_of (O.written out.old) (O.written out.new) (O.faults out.old) (O.faults out.new)) (sink_of (E.written err.old) (E.written err.new) (E.faults err.old) (E.faults err.new)) result }
+{
+    let is_err_whole = put_all(err, texts.err.as_slice());
+    let is_out_whole = put_all(out, texts.out.as_slice());
+    if is_err_whole && is_out_whole {
+        texts.status
+    } else {
+        FAILED_OUTPUT
+    }
+}
+
+/// Runs the command.
+///
+/// The words are `--seed S --max_iterations N NAME`. The instance is loaded from the files, read and searched; its plan
+/// and a line of the table are put to `out`, and the line of its fault, if it has one, to `err`.
+///
+/// The status is 2 where the words are wrong, 3 for want of memory (nothing was put then), 4 where an output failed, 1 where
+/// the instance wasn't read, and else 0.
+pub fn run_command<R: Threads + Sync, F: Files, O: Sink, E: Sink>(
+    rt: &R,
+    alloc: Global,
+    words: Vec<String>,
+    files: &mut F,
+    out: &mut O,
+    err: &mut E,
+) -> u8
+    ensures runs { result ≢ 3 → Runs (asked (map string_bytes words.items)) (files_of (F.holding files.old) (F.faults files.old) (F.faults files.new)) (sink_of (O.written out.old) (O.written out.new) (O.faults out.old) (O.faults out.new)) (sink_of (E.written err.old) (E.written err.new) (E.faults err.old) (E.faults err.new)) result }
+    ensures no_memory { result ≡ 3 → IsUntouched (sink_of (O.written out.old) (O.written out.new) (O.faults out.old) (O.faults out.new)) × IsUntouched (sink_of (E.written err.old) (E.written err.new) (E.faults err.old) (E.faults err.new)) }
+    ensures kept { F.holding files.new ≡ F.holding files.old }
+{
+    let Some(asked) = read_words(words.as_slice()) else {
+        let _taken = put_all(err, WRONG_WORDS.as_bytes());
+        return WRONG;
+    };
+    match texts_of_path(rt, alloc, &asked, files) {
+        Ok(texts) => deliver(&texts, out, err),
+        Err(NoMemory) => NO_MEMORY,
+    }
+}

@@ -1,0 +1,111 @@
+//! Runs of the command over files and sinks in memory.
+use crate::outside::memory_files::MemoryFiles;
+use crate::outside::memory_sink::MemorySink;
+use crate::outside::nowhere::Nowhere;
+use crate::outside::plain_files::PlainFiles;
+use crate::run::run_command;
+use problem_data::NoMemory;
+use std::alloc::Global;
+use std::process::Abort;
+use std::thread::Threads;
+
+const THREE: &str =
+    "NAME : three\nDIMENSION : 4\nEDGE_WEIGHT_TYPE : EUC_2D\nCAPACITY : 10\nNODE_COORD_SECTION\n1 0 0\n2 3 4\n3 6 8\n4 0 2\nDEMAND_SECTION\n1 0\n2 1\n3 1\n4 1\nDEPOT_SECTION\n1\n-1\nEOF\n";
+
+const THREE_OUTPUT: &str =
+    "Route #1: 2\nRoute #2: 1\nRoute #3: 3\nCost 34\n\nInstance                 OK                 Obj. Iters. (#)\nthree                    Y                    34          0\nFeasible: 1 of 1\n";
+
+const REFUSED_OUTPUT: &str =
+    "Instance                 OK                 Obj. Iters. (#)\nthree                    R                     -          0\nFeasible: 0 of 1\n";
+
+/// The words that ask for an instance's first solution.
+fn words_for(alloc: Global, path: &str) -> Result<Vec<String>, NoMemory> {
+    let mut words = Vec::new(alloc);
+    for word in ["--seed", "1", "--max_iterations", "0", path] {
+        words.push(String::from_str(alloc, word)?)?;
+    }
+    Ok(words)
+}
+
+/// Runs the command on files, and compares what it answers and prints.
+fn check_run<R: Threads + Sync + Abort>(
+    rt: &R,
+    alloc: Global,
+    files: &mut MemoryFiles,
+    rooms: (u32, u32),
+    expected: (u8, &str, &str),
+) -> Result<(), NoMemory> {
+    let mut out = MemorySink::new(alloc, rooms.0)?;
+    let mut err = MemorySink::new(alloc, rooms.1)?;
+    let status = run_command(
+        rt,
+        alloc,
+        words_for(alloc, "three.vrp")?,
+        files,
+        &mut out,
+        &mut err,
+    );
+    assert_eq!(rt; status, expected.0);
+    assert_eq!(rt; out.written(), expected.1.as_bytes());
+    assert_eq!(rt; err.written(), expected.2.as_bytes());
+    Ok(())
+}
+
+/// Files that hold one text, of which the first load fails where it is said to.
+fn files_with(alloc: Global, text: &str, fails: bool) -> Result<MemoryFiles, NoMemory> {
+    let mut failing = Vec::new(alloc);
+    failing.push(fails)?;
+    let mut files = MemoryFiles::new(alloc, failing);
+    files.set("three.vrp", text.as_bytes())?;
+    Ok(files)
+}
+
+#[test]
+fn prints_the_random_solution(rt: HostRuntime) -> Result<(), NoMemory> {
+    let mut files = files_with(rt.alloc(), THREE, false)?;
+    check_run(
+        &rt,
+        rt.alloc(),
+        &mut files,
+        (500, 500),
+        (0, THREE_OUTPUT, ""),
+    )?;
+    assert_eq!(rt; files.faults().len(), 0);
+    Ok(())
+}
+
+#[test]
+fn prints_as_much_as_the_output_takes(rt: HostRuntime) -> Result<(), NoMemory> {
+    let mut files = files_with(rt.alloc(), THREE, false)?;
+    check_run(
+        &rt,
+        rt.alloc(),
+        &mut files,
+        (110, 500),
+        (4, &THREE_OUTPUT[..110], ""),
+    )
+}
+
+#[test]
+fn says_what_is_not_read(rt: HostRuntime) -> Result<(), NoMemory> {
+    let mut failing = files_with(rt.alloc(), THREE, true)?;
+    let unread = (1, REFUSED_OUTPUT, "pyvrp: three: cannot be read\n");
+    check_run(&rt, rt.alloc(), &mut failing, (500, 500), unread)?;
+    assert_eq!(rt; failing.faults().len(), 1);
+    let mut other = files_with(rt.alloc(), "EOF\n", false)?;
+    let refused = (1, REFUSED_OUTPUT, "pyvrp: three: line 0: rule 14 Later\n");
+    check_run(&rt, rt.alloc(), &mut other, (500, 500), refused)?;
+    let partly = (4, REFUSED_OUTPUT, "pyvrp: thr");
+    check_run(&rt, rt.alloc(), &mut other, (500, 10), partly)
+}
+
+#[test]
+fn refuses_wrong_words(rt: HostRuntime) -> Result<(), NoMemory> {
+    let mut files = PlainFiles::new(rt.alloc());
+    let mut err = MemorySink::new(rt.alloc(), 500)?;
+    let words = Vec::new(rt.alloc());
+    let status = run_command(&rt, rt.alloc(), words, &mut files, &mut Nowhere, &mut err);
+    assert_eq!(rt; status, 2);
+    assert_eq!(rt; err.written(), b"pyvrp: wrong words\n".as_slice());
+    Ok(())
+}

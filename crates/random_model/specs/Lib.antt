@@ -1,0 +1,5 @@
+pub use Rattle.vrp_num.specs.Orders
+pub use Rattle.routing_model.specs.Routes
+pub mod Draws
+pub mod Groups
+pub mod RandomSolution

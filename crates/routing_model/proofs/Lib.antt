@@ -1,0 +1,12 @@
+pub mod BestRows
+pub mod BestDrive
+pub mod Tidying
+pub mod Examples
+pub mod Rows
+pub mod PlainCost
+pub mod CostRows
+pub mod Walks
+pub mod LawfulFacts
+pub mod ValidRows
+pub mod FeasibleCost
+pub mod FeasibleBest

@@ -1,0 +1,12 @@
+pub use Rattle.list_words.specs.Lists
+pub use Rattle.problem_data.specs.Places
+pub mod Best
+pub mod Clock
+pub mod Cost
+pub mod Feasible
+pub mod Lawful
+pub mod Laws
+pub mod Load
+pub mod Routes
+pub mod Stops
+pub mod Tidy
