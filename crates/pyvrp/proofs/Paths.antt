@@ -1,6 +1,6 @@
 -- The parts of a path.
-use Rattle.std.proofs.Common.{◌≡◌, ◌≢◌, ℕ, ◌+◌, ◌-◌, ◌<◌, ◌≤◌, Bool, true, false, List, [], ◌∷◌, ◌++◌, length, get_or, take, drop, refl, sym, ◌∙◌, ap, arith, length-drop}
-use Rattle.std.specs.Prelude.{Option, Some, None, not, ◌==◌, nat_eq, if◌then◌else◌, codes}
+use Rattle.std.proofs.Common.{◌≡◌, ◌≢◌, ℕ, ◌+◌, ◌-◌, ◌<◌, ◌≤◌, Bool, true, false, List, ◌++◌, length, get_or, take, drop, refl, ◌∙◌, ap, arith, length-drop}
+use Rattle.std.specs.Prelude.{not, ◌==◌, nat_eq, if◌then◌else◌, codes}
 use Rattle.std.specs.List.{after_last, suffix_len, ends_with}
 use Rattle.std.specs.Str.{NoCharPasses, IsCharBoundary}
 use Rattle.std.specs.Str.Pattern.{RFindsChar, HasCharAt, SplitsAroundMatch, StripsSuffix, FindsTextSuffix}

@@ -1,13 +1,13 @@
 -- What a run answers, from what its parts answer.
 use Rattle.std.proofs.Common.{◌≡◌, ℕ, List, [], ◌∷◌, refl, sym, ◌∙◌, ap, subst, inl, inr, arith}
-use Rattle.std.specs.Prelude.{Option, Some, None, ◌⊎◌}
+use Rattle.std.specs.Prelude.{Option, Some, None}
 use Rattle.command_model.specs.Command.{Effects, effects_of, refused_words}
 use Rattle.command_model.specs.Outcomes as model
 use Rattle.command_model.specs.Words.{Asked, base_name}
 use Rattle.pyvrp.specs.declared.outcome.Outcome.{Outcome}
 use Rattle.pyvrp.specs.declared.run.Texts.{Texts}
 use Rattle.pyvrp.specs.Report.{StandsFor, TellsErrors, TellsOutput, TellsStatus}
-use Rattle.pyvrp.specs.Run.{Delivers, FilesOfCall, HasFault, HoldsWhole, IsGiven, IsUntouched, RefusesWords, Runs, RunsInstance, SinkOfCall}
+use Rattle.pyvrp.specs.Run.{Delivers, FilesOfCall, IsGiven, IsUntouched, RefusesWords, Runs, RunsInstance, SinkOfCall}
 use Rattle.pyvrp.specs.Texts.{HasTextsOf, IsEffects}
 
 -- the texts of an instance's name are those of its path

@@ -54,7 +54,7 @@ route_cost-plain p w visit rest simple clients short =
     ∙ (ap (λ (t : VehicleType). used_cost p w t (visit ∷ rest)) (type-plain p simple) ∙ used_cost-plain p simple w (visit ∷ rest) clients short)
 
 -- the vehicles are all of the one type
-types_of_vehicles-plain : (p : Problem) (simple : IsSimple p) → types_of_vehicles p ≡ replicate simple.count 0
+pub types_of_vehicles-plain : (p : Problem) (simple : IsSimple p) → types_of_vehicles p ≡ replicate simple.count 0
 types_of_vehicles-plain p simple =
     ap (λ (ts : List VehicleType). flat_map (λ (e : ℕ × VehicleType). replicate e.1.count e.0) (enumerate_from 0 ts)) simple.types
     ∙ append-nil (replicate simple.count 0)

@@ -1,7 +1,5 @@
 pub mod Asked
-pub mod Holding
-pub mod InMemory
-pub mod Outside
+pub mod ClientMoves
 pub mod RandomPlan
 pub mod Readings
 pub mod Report

@@ -1,14 +1,12 @@
 -- What a run of the command answers, prints and leaves.
 use Rattle.std.specs.Prelude.{◌≡◌, ℕ, ◌*◌, ◌^◌, ◌⊎◌, false, List, [], ◌∷◌, ◌++◌, Option, Some, None}
 use Rattle.command_model.specs.Command.{Effects, effects_of, refused_words}
-use Rattle.command_model.specs.FirstSearch.{first_search}
-use Rattle.command_model.specs.Outcomes.{Load, failed, too_long, loaded, Outcome, ComesOf, ComesOfText, IsFeasibleOutcome}
+use Rattle.command_model.specs.EarlySearch.{early_search}
+use Rattle.command_model.specs.Outcomes.{Load, failed, too_long, loaded, Outcome, ComesOf, IsFeasibleOutcome}
 use Rattle.command_model.specs.Words.{Asked, base_name}
-use Rattle.pyvrp.specs.declared.outside.files.FileFault.{FileFault}
-use Rattle.pyvrp.specs.declared.outcome.Outcome as shown
-use Rattle.pyvrp.specs.Holding.{Holding}
-use Rattle.pyvrp.specs.Report.{StandsFor}
-use Rattle.pyvrp.specs.Outside.{IsLoaded, IsTooLong, Rose, Appended, AppendedPart, fault}
+use Rattle.batch_run.specs.declared.files.FileFault.{FileFault}
+use Rattle.batch_run.specs.Holding.{Holding}
+use Rattle.batch_run.specs.Outside.{IsLoaded, IsTooLong, Rose, Appended, AppendedPart, fault}
 
 -- the most bytes of an instance: 64 MiB
 abbrev pub largest_file : ℕ
@@ -27,9 +25,11 @@ pub record SinkOfCall : Type 0 where
   pub faults_before : ℕ
   pub faults_after : ℕ
 
+-- the same, from what a call's `files` tell
 abbrev pub files_of : Option Holding → List FileFault → List FileFault → FilesOfCall
 files_of holding before after = record { holding = holding; before = before; after = after }
 
+-- the same, from what a call's sink tells
 abbrev pub sink_of : Option (List ℕ) → Option (List ℕ) → ℕ → ℕ → SinkOfCall
 sink_of written_before written_after faults_before faults_after = record {
   written_before = written_before;
@@ -77,7 +77,7 @@ pub record RunsInstance (asked : Asked) (files : FilesOfCall) (out err : SinkOfC
   -- the load is the files' answer, within the limit
   pub answer : IsAnswer files asked.path load
   -- the outcome is that of the plain search
-  pub comes : ComesOf (first_search asked.seed) load outcome
+  pub comes : ComesOf (early_search asked.seed asked.iterations) load outcome
   -- what is printed as feasible is feasible, at its cost
   pub feasible : IsFeasibleOutcome outcome
   pub effects : Delivers (effects_of ((base_name asked.path, outcome) ∷ [])) out err status
@@ -93,19 +93,3 @@ pub record RefusesWords (files : FilesOfCall) (out err : SinkOfCall) (status : �
 abbrev pub Runs : Option Asked → FilesOfCall → SinkOfCall → SinkOfCall → ℕ → Type 0
 Runs None files out err status = RefusesWords files out err status
 Runs (Some asked) files out err status = RunsInstance asked files out err status
-
--- what comes of an instance's bytes, as the program keeps it
-pub record ComesOfBytes (seed : ℕ) (bytes : List ℕ) (shown : shown.Outcome) : Type 0 where
-  pub outcome : Outcome
-  pub comes : ComesOfText (first_search seed) bytes outcome
-  pub feasible : IsFeasibleOutcome outcome
-  pub stands : StandsFor outcome shown
-
--- what comes of a path: the files' answer to its load, and the outcome, as the program keeps it
-pub record ComesOfPath (seed : ℕ) (path : List ℕ) (files : FilesOfCall) (shown : shown.Outcome) : Type 0 where
-  pub load : Load
-  pub outcome : Outcome
-  pub answer : IsAnswer files path load
-  pub comes : ComesOf (first_search seed) load outcome
-  pub feasible : IsFeasibleOutcome outcome
-  pub stands : StandsFor outcome shown

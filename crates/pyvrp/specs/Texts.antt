@@ -1,13 +1,29 @@
--- The texts that the program makes.
+-- What the program makes of an instance on the way to its texts.
 use Rattle.std.specs.Prelude.{◌≡◌, ℕ, List, [], ◌∷◌}
 use Rattle.command_model.specs.Command.{Effects, effects_of}
-use Rattle.command_model.specs.FirstSearch.{first_search}
+use Rattle.command_model.specs.EarlySearch.{early_search}
 use Rattle.command_model.specs.Outcomes as model
 use Rattle.command_model.specs.Words.{Asked, base_name}
 use Rattle.pyvrp.specs.declared.outcome.Outcome.{Outcome}
 use Rattle.pyvrp.specs.declared.run.Texts.{Texts}
 use Rattle.pyvrp.specs.Report.{StandsFor}
 use Rattle.pyvrp.specs.Run.{FilesOfCall, IsAnswer}
+
+-- what comes of an instance's bytes, as the program keeps it
+pub record ComesOfBytes (seed iterations : ℕ) (bytes : List ℕ) (shown : Outcome) : Type 0 where
+  pub outcome : model.Outcome
+  pub comes : model.ComesOfText (early_search seed iterations) bytes outcome
+  pub feasible : model.IsFeasibleOutcome outcome
+  pub stands : StandsFor outcome shown
+
+-- what comes of a path: the files' answer to its load, and the outcome, as the program keeps it
+pub record ComesOfPath (seed iterations : ℕ) (path : List ℕ) (files : FilesOfCall) (shown : Outcome) : Type 0 where
+  pub load : model.Load
+  pub outcome : model.Outcome
+  pub answer : IsAnswer files path load
+  pub comes : model.ComesOf (early_search seed iterations) load outcome
+  pub feasible : model.IsFeasibleOutcome outcome
+  pub stands : StandsFor outcome shown
 
 -- the texts and the status are these effects
 pub record IsEffects (effects : Effects) (texts : Texts) : Type 0 where
@@ -24,6 +40,6 @@ pub record HasTextsOf (asked : Asked) (files : FilesOfCall) (texts : Texts) : Ty
   pub load : model.Load
   pub outcome : model.Outcome
   pub answer : IsAnswer files asked.path load
-  pub comes : model.ComesOf (first_search asked.seed) load outcome
+  pub comes : model.ComesOf (early_search asked.seed asked.iterations) load outcome
   pub feasible : model.IsFeasibleOutcome outcome
   pub effects : IsEffects (effects_of ((base_name asked.path, outcome) ∷ [])) texts

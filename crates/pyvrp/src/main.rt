@@ -1,9 +1,12 @@
 //! The routing solver's command: reads an instance, searches routes, prints them and a table, and answers a status.
 #![tactic(auto)]
 
-mod first_search;
+mod candidates;
+mod client_moves;
+mod descent;
+mod early_search;
+mod near_clients;
 mod outcome;
-mod outside;
 mod random_plan;
 mod report;
 mod run;
@@ -13,9 +16,8 @@ mod table;
 mod tests;
 mod words;
 
-use crate::outside::folder::Folder;
-use crate::outside::standard::{StandardError, StandardOutput};
 use crate::run::{NO_MEMORY, run_command};
+use batch_run::{Folder, StandardError, StandardOutput};
 use problem_data::NoMemory;
 use std::env;
 use std::io::ErrorKind;

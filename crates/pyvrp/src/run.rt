@@ -6,15 +6,14 @@ ghost use Rattle.pyvrp.specs.Asked.{shown};
 ghost use Rattle.vrplib_read.specs.Plain.{RefusesPlainly};
 ghost use Rattle.pyvrp.specs.Readings.{IsSimpleReading};
 ghost use Rattle.pyvrp.specs.Report.{IsRefusalOf};
-ghost use Rattle.pyvrp.specs.Run.{ComesOfBytes, ComesOfPath, Delivers, HasFault, HoldsWhole, IsGiven, IsUntouched, Runs, files_of, sink_of};
-ghost use Rattle.pyvrp.specs.Texts.{HasTextsOf, IsEffects, TellsEffects};
+ghost use Rattle.pyvrp.specs.Run.{Delivers, HasFault, HoldsWhole, IsGiven, IsUntouched, Runs, files_of, sink_of};
+ghost use Rattle.pyvrp.specs.Texts.{ComesOfBytes, ComesOfPath, HasTextsOf, IsEffects, TellsEffects};
 
-use crate::first_search::answer_of;
+use crate::early_search::answer_of;
 use crate::outcome::Outcome;
-use crate::outside::files::{Files, LoadFault};
-use crate::outside::sink::Sink;
 use crate::report::{error_text, output_text, status_of};
 use crate::words::{Asked, base_name, read_words};
+use batch_run::{Files, LoadFault, Sink};
 use problem_data::{NoMemory, Problem};
 use std::alloc::Global;
 use std::thread::Threads;
@@ -68,12 +67,13 @@ fn outcome_of_bytes<R: Threads + Sync>(
     alloc: Global,
     bytes: &[u8],
     seed: u32,
+    iterations: u32,
 ) -> Result<Outcome, NoMemory>
-    ensures { IfOk result (ComesOfBytes seed bytes.now) }
+    ensures { IfOk result (ComesOfBytes seed iterations bytes.now) }
 {
     match simple_instance(alloc, bytes) {
         Ok(problem) => {
-            let answer = answer_of(rt, alloc, problem, seed)?;
+            let answer = answer_of(rt, alloc, problem, seed, iterations)?;
             Ok(Outcome::Solved(answer))
         }
         Err(fault) => refused(fault),
@@ -86,13 +86,15 @@ fn outcome_of_path<R: Threads + Sync, F: Files>(
     alloc: Global,
     path: &str,
     seed: u32,
+    iterations: u32,
     files: &mut F,
 ) -> Result<Outcome, NoMemory>
-    ensures found { IfOk result (ComesOfPath seed path.now (files_of (F.holding files.old) (F.faults files.old) (F.faults files.new))) }
+    ensures found { IfOk result (ComesOfPath seed iterations path.now
+        (files_of (F.holding files.old) (F.faults files.old) (F.faults files.new))) }
     ensures kept { F.holding files.new ≡ F.holding files.old }
 {
     match files.load(path, LARGEST_FILE) {
-        Ok(bytes) => outcome_of_bytes(rt, alloc, bytes.as_slice(), seed),
+        Ok(bytes) => outcome_of_bytes(rt, alloc, bytes.as_slice(), seed, iterations),
         Err(LoadFault::Failed) => Ok(Outcome::Unreadable),
         Err(LoadFault::TooLong) => Ok(Outcome::Oversized),
         Err(LoadFault::NoMemory) => Err(NoMemory),
@@ -118,25 +120,31 @@ fn texts_of_path<R: Threads + Sync, F: Files>(
     asked: &Asked<'_>,
     files: &mut F,
 ) -> Result<Texts, NoMemory>
-    ensures found { IfOk result (HasTextsOf (shown asked.now) (files_of (F.holding files.old) (F.faults files.old) (F.faults files.new))) }
+    ensures found { IfOk result (HasTextsOf (shown asked.now)
+        (files_of (F.holding files.old) (F.faults files.old) (F.faults files.new))) }
     ensures kept { F.holding files.new ≡ F.holding files.old }
 {
-    let outcome = outcome_of_path(rt, alloc, asked.path, asked.seed, files)?;
+    let outcome = outcome_of_path(rt, alloc, asked.path, asked.seed, asked.iterations, files)?;
     texts_of(alloc, asked.path, &outcome)
 }
 
 /// Puts the bytes, and says whether the sink took them all.
 fn put_all<S: Sink>(sink: &mut S, bytes: &[u8]) -> bool
-    ensures given { IsGiven bytes.now (sink_of (S.written sink.old) (S.written sink.new) (S.faults sink.old) (S.faults sink.new)) }
-    ensures whole { result ≡ true → HoldsWhole bytes.now (sink_of (S.written sink.old) (S.written sink.new) (S.faults sink.old) (S.faults sink.new)) }
-    ensures fault { result ≡ false → HasFault (sink_of (S.written sink.old) (S.written sink.new) (S.faults sink.old) (S.faults sink.new)) }
+    ensures given { IsGiven bytes.now
+        (sink_of (S.written sink.old) (S.written sink.new) (S.faults sink.old) (S.faults sink.new)) }
+    ensures whole { result ≡ true → HoldsWhole bytes.now
+        (sink_of (S.written sink.old) (S.written sink.new) (S.faults sink.old) (S.faults sink.new)) }
+    ensures fault { result ≡ false → HasFault
+        (sink_of (S.written sink.old) (S.written sink.new) (S.faults sink.old) (S.faults sink.new)) }
 {
     sink.put(bytes).is_ok()
 }
 
 /// Puts the texts, errors first, and answers the status.
 fn deliver<O: Sink, E: Sink>(texts: &Texts, out: &mut O, err: &mut E) -> u8
-    ensures { (effects : Effects) → IsEffects effects texts.now → Delivers effects (sink_of (O.written out.old) (O.written out.new) (O.faults out.old) (O.faults out.new)) (sink_of (E.written err.old) (E.written err.new) (E.faults err.old) (E.faults err.new)) result }
+    ensures { (effects : Effects) → IsEffects effects texts.now → Delivers effects
+        (sink_of (O.written out.old) (O.written out.new) (O.faults out.old) (O.faults out.new))
+        (sink_of (E.written err.old) (E.written err.new) (E.faults err.old) (E.faults err.new)) result }
 {
     let is_err_whole = put_all(err, texts.err.as_slice());
     let is_out_whole = put_all(out, texts.out.as_slice());
@@ -149,7 +157,7 @@ fn deliver<O: Sink, E: Sink>(texts: &Texts, out: &mut O, err: &mut E) -> u8
 
 /// Runs the command.
 ///
-/// The words are `--seed S --max_iterations N NAME`. The instance is loaded from the files, read and searched; its plan
+/// The words are `--seed S --max_iterations N NAME`, N being 0 or 1. The instance is loaded from the files, read and searched; its plan
 /// and a line of the table are put to `out`, and the line of its fault, if it has one, to `err`.
 ///
 /// The status is 2 where the words are wrong, 3 for want of memory (nothing was put then), 4 where an output failed, 1 where
@@ -162,8 +170,13 @@ pub fn run_command<R: Threads + Sync, F: Files, O: Sink, E: Sink>(
     out: &mut O,
     err: &mut E,
 ) -> u8
-    ensures runs { result ≢ 3 → Runs (asked (map string_bytes words.items)) (files_of (F.holding files.old) (F.faults files.old) (F.faults files.new)) (sink_of (O.written out.old) (O.written out.new) (O.faults out.old) (O.faults out.new)) (sink_of (E.written err.old) (E.written err.new) (E.faults err.old) (E.faults err.new)) result }
-    ensures no_memory { result ≡ 3 → IsUntouched (sink_of (O.written out.old) (O.written out.new) (O.faults out.old) (O.faults out.new)) × IsUntouched (sink_of (E.written err.old) (E.written err.new) (E.faults err.old) (E.faults err.new)) }
+    ensures runs { result ≢ 3 → Runs (asked (map string_bytes words.items))
+        (files_of (F.holding files.old) (F.faults files.old) (F.faults files.new))
+        (sink_of (O.written out.old) (O.written out.new) (O.faults out.old) (O.faults out.new))
+        (sink_of (E.written err.old) (E.written err.new) (E.faults err.old) (E.faults err.new)) result }
+    ensures no_memory { result ≡ 3
+        → IsUntouched (sink_of (O.written out.old) (O.written out.new) (O.faults out.old) (O.faults out.new))
+        × IsUntouched (sink_of (E.written err.old) (E.written err.new) (E.faults err.old) (E.faults err.new)) }
     ensures kept { F.holding files.new ≡ F.holding files.old }
 {
     let Some(asked) = read_words(words.as_slice()) else {

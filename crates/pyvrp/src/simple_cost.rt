@@ -11,7 +11,7 @@ ghost use Rattle.routing_model.specs.Lawful.{is_lawful, names_place};
 ghost use Rattle.routing_model.specs.Load.{excess_load, first_trip, trip_load};
 ghost use Rattle.routing_model.specs.Routes.{is_client};
 
-use problem_data::{ProblemData, Reads, Solution, Steps, Visit, leg};
+use problem_data::{ProblemData, Reads, Solution, Steps, Visit, VisitList, leg};
 use routing_model::Weights;
 
 /// What one pass over a vehicle's clients tells.
@@ -113,6 +113,29 @@ pub fn route_cost(
     capped_cost(given, visits, capacity(given), weights, reads) as i128
 }
 
+/// What a lawful plan of a simple problem costs, given by its lists: what its vehicles cost
+/// together. Conditions: the plan is lawful, and a unit of excess load costs at most 10^9. For
+/// each vehicle it reads at most one leg more than there are visits.
+pub fn routes_cost(
+    given: &ProblemData,
+    routes: &[VisitList],
+    weights: Weights,
+    reads: &mut Steps<Reads>,
+) -> i128
+    requires simple { IsSimple given.now }
+    requires lawful { IsTrue (is_lawful given.now routes.now) }
+    requires weight { weights.load ≤ 10 ^ 9 }
+    ensures cost { result ≡ pos (solution_cost given.now weights routes.now) }
+    ensures reads { RoseAtMost (sum_by (λ (visits : List Visit). length visits + 1) routes.now) reads.old reads.new }
+{
+    let capacity = capacity(given);
+    let mut cost = 0;
+    for visits in routes {
+        cost += capped_cost(given, visits.items(), capacity, weights, reads);
+    }
+    cost as i128
+}
+
 /// What a lawful plan of a simple problem costs: what its vehicles cost together. Conditions: the
 /// plan is lawful, and a unit of excess load costs at most 10^9. For each vehicle it reads at most
 /// one leg more than there are visits.
@@ -128,12 +151,7 @@ pub fn solution_cost(
     ensures cost { result ≡ pos (solution_cost given.now weights solution.now.routes) }
     ensures reads { RoseAtMost (sum_by (λ (visits : List Visit). length visits + 1) solution.now.routes) reads.old reads.new }
 {
-    let capacity = capacity(given);
-    let mut cost = 0;
-    for visits in solution.routes.items() {
-        cost += capped_cost(given, visits.items(), capacity, weights, reads);
-    }
-    cost as i128
+    routes_cost(given, solution.routes.items(), weights, reads)
 }
 
 /// Whether a vehicle of this capacity can carry what its clients need together.

@@ -1,9 +1,6 @@
 //! Runs of the command over files and sinks in memory.
-use crate::outside::memory_files::MemoryFiles;
-use crate::outside::memory_sink::MemorySink;
-use crate::outside::nowhere::Nowhere;
-use crate::outside::plain_files::PlainFiles;
 use crate::run::run_command;
+use batch_run::{MemoryFiles, MemorySink, Nowhere, PlainFiles};
 use problem_data::NoMemory;
 use std::alloc::Global;
 use std::process::Abort;
@@ -15,13 +12,16 @@ const THREE: &str =
 const THREE_OUTPUT: &str =
     "Route #1: 2\nRoute #2: 1\nRoute #3: 3\nCost 34\n\nInstance                 OK                 Obj. Iters. (#)\nthree                    Y                    34          0\nFeasible: 1 of 1\n";
 
+const DESCENDED_OUTPUT: &str =
+    "Route #1: 1 2 3\nCost 20\n\nInstance                 OK                 Obj. Iters. (#)\nthree                    Y                    20          1\nFeasible: 1 of 1\n";
+
 const REFUSED_OUTPUT: &str =
     "Instance                 OK                 Obj. Iters. (#)\nthree                    R                     -          0\nFeasible: 0 of 1\n";
 
-/// The words that ask for an instance's first solution.
-fn words_for(alloc: Global, path: &str) -> Result<Vec<String>, NoMemory> {
+/// The words that ask for an instance's solution after so many iterations.
+fn words_for(alloc: Global, iterations: &str, path: &str) -> Result<Vec<String>, NoMemory> {
     let mut words = Vec::new(alloc);
-    for word in ["--seed", "1", "--max_iterations", "0", path] {
+    for word in ["--seed", "1", "--max_iterations", iterations, path] {
         words.push(String::from_str(alloc, word)?)?;
     }
     Ok(words)
@@ -31,6 +31,7 @@ fn words_for(alloc: Global, path: &str) -> Result<Vec<String>, NoMemory> {
 fn check_run<R: Threads + Sync + Abort>(
     rt: &R,
     alloc: Global,
+    iterations: &str,
     files: &mut MemoryFiles,
     rooms: (u32, u32),
     expected: (u8, &str, &str),
@@ -40,7 +41,7 @@ fn check_run<R: Threads + Sync + Abort>(
     let status = run_command(
         rt,
         alloc,
-        words_for(alloc, "three.vrp")?,
+        words_for(alloc, iterations, "three.vrp")?,
         files,
         &mut out,
         &mut err,
@@ -66,6 +67,7 @@ fn prints_the_random_solution(rt: HostRuntime) -> Result<(), NoMemory> {
     check_run(
         &rt,
         rt.alloc(),
+        "0",
         &mut files,
         (500, 500),
         (0, THREE_OUTPUT, ""),
@@ -75,11 +77,19 @@ fn prints_the_random_solution(rt: HostRuntime) -> Result<(), NoMemory> {
 }
 
 #[test]
+fn prints_the_descended_solution(rt: HostRuntime) -> Result<(), NoMemory> {
+    let mut files = files_with(rt.alloc(), THREE, false)?;
+    let descended = (0, DESCENDED_OUTPUT, "");
+    check_run(&rt, rt.alloc(), "1", &mut files, (500, 500), descended)
+}
+
+#[test]
 fn prints_as_much_as_the_output_takes(rt: HostRuntime) -> Result<(), NoMemory> {
     let mut files = files_with(rt.alloc(), THREE, false)?;
     check_run(
         &rt,
         rt.alloc(),
+        "0",
         &mut files,
         (110, 500),
         (4, &THREE_OUTPUT[..110], ""),
@@ -90,13 +100,13 @@ fn prints_as_much_as_the_output_takes(rt: HostRuntime) -> Result<(), NoMemory> {
 fn says_what_is_not_read(rt: HostRuntime) -> Result<(), NoMemory> {
     let mut failing = files_with(rt.alloc(), THREE, true)?;
     let unread = (1, REFUSED_OUTPUT, "pyvrp: three: cannot be read\n");
-    check_run(&rt, rt.alloc(), &mut failing, (500, 500), unread)?;
+    check_run(&rt, rt.alloc(), "0", &mut failing, (500, 500), unread)?;
     assert_eq!(rt; failing.faults().len(), 1);
     let mut other = files_with(rt.alloc(), "EOF\n", false)?;
     let refused = (1, REFUSED_OUTPUT, "pyvrp: three: line 0: rule 14 Later\n");
-    check_run(&rt, rt.alloc(), &mut other, (500, 500), refused)?;
+    check_run(&rt, rt.alloc(), "0", &mut other, (500, 500), refused)?;
     let partly = (4, REFUSED_OUTPUT, "pyvrp: thr");
-    check_run(&rt, rt.alloc(), &mut other, (500, 10), partly)
+    check_run(&rt, rt.alloc(), "0", &mut other, (500, 10), partly)
 }
 
 #[test]

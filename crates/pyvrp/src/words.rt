@@ -5,7 +5,7 @@ ghost use Rattle.pyvrp.specs.Asked.{shown};
 ghost use Rattle.command_model.specs.Words.{are_option_names, asked, asked_by, base_name, is_option_like, number_up_to, without_ending, word_at};
 
 /// The most iterations that may be asked for.
-const MOST_ITERATIONS: u32 = 0;
+const MOST_ITERATIONS: u32 = 1;
 
 /// What the words ask for.
 #[derive(Clone, Copy, Debug)]
@@ -50,7 +50,9 @@ fn asked_by<'a>(seed: &str, iterations: &str, path: &'a str) -> Option<Asked<'a>
         return None;
     }
     let seed = number_up_to(seed, u32::MAX)?;
-    let iterations = number_up_to(iterations, MOST_ITERATIONS)?;
+    let Some(iterations) = number_up_to(iterations, MOST_ITERATIONS) else {
+        return None;
+    };
     Some(Asked {
         seed,
         iterations,

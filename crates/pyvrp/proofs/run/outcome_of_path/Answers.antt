@@ -5,7 +5,7 @@ use Rattle.pyvrp.proofs.run.outcome_of_path.Goals as goal
 
 pub returns-in-Ok-clause-found : goal.returns-in-Ok-clause-found
 returns-in-Ok-clause-found g c = IfOk-weaker c.outcome_of_bytes.result _ _
-    (comes-loaded c.args.seed c.args.path.now c.in-Ok.bytes.items c.as_slice.result.now
+    (comes-loaded c.args.seed c.args.iterations c.args.path.now c.in-Ok.bytes.items c.as_slice.result.now
     (files_of (g.F.Files.holding c.args.files.now) (g.F.Files.faults c.args.files.now) (g.F.Files.faults c.load.new.self))
     c.as_slice.ensures.value c.in-Ok.ensures.bytes c.in-Ok.ensures.faults)
     c.outcome_of_bytes.ensures

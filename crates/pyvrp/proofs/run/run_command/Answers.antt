@@ -1,4 +1,4 @@
-use Rattle.std.proofs.Common.{List, ℕ, ap, map, refl, ◌∙◌}
+use Rattle.std.proofs.Common.{ap, map, refl, ◌∙◌}
 use Rattle.std.specs.Prelude.{string_bytes}
 use Rattle.command_model.specs.Words.{asked}
 use Rattle.pyvrp.specs.Asked.{shown}

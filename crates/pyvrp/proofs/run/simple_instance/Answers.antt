@@ -1,5 +1,5 @@
 use Rattle.std.proofs.lemmas.Result.{IfOk-weaker}
-use Rattle.pyvrp.proofs.FirstAnswers.{simple-reading}
+use Rattle.pyvrp.proofs.EarlyAnswers.{simple-reading}
 use Rattle.pyvrp.proofs.run.simple_instance.Goals as goal
 
 pub returns-clause-simple : goal.returns-clause-simple

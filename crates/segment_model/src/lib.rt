@@ -1,0 +1,2 @@
+//! What joining segments means for their numbers, and its laws.
+#![tactic(auto)]

@@ -1,0 +1,5 @@
+pub mod Distance
+pub mod Duration
+pub mod Laws
+pub mod Load
+pub mod Totals
