@@ -1,0 +1,13 @@
+pub mod LongerPaths
+pub mod LongerCargos
+pub mod ValidLegs
+pub mod LongerStretches
+pub mod TidyStops
+pub mod WholeTotals
+pub mod UsedCosts
+pub mod VisitSums
+pub mod FleetSums
+pub mod MissedPrizes
+pub mod PlanExcess
+pub mod TestedPlaces
+pub mod TestedVehicles

@@ -1,0 +1,15 @@
+use Rattle.std.proofs.Common.{◌≡◌, ℕ, sym, subst, ap, ◌∙◌}
+use Rattle.problem_data.specs.Places.{leg_distance, leg_duration}
+use Rattle.route_cache.specs.Sections.{CanMergeSections, JoinsSections}
+use Rattle.route_cache.proofs.Joins.{fit-can, joined-at}
+use Rattle.route_cache.proofs.sections.Section.join.Goals as goal
+
+pub merge-requires : goal.merge-requires
+merge-requires c =
+    rw (c.leg-leg.ensures.distance, c.leg-leg.ensures.duration)
+    (fit-can c.args.given.now c.args.kind.now c.args.self c.args.last c.args.next c.args.first c.requires.fit)
+
+pub returns-clause-joins : goal.returns-clause-joins
+returns-clause-joins c =
+    joined-at c.args.given.now c.args.kind.now c.args.self c.args.last c.args.next c.args.first c.merge.result
+    (rw (c.leg-leg.ensures.distance, c.leg-leg.ensures.duration) at c.merge.ensures)

@@ -1,0 +1,4 @@
+pub mod Caching
+pub mod Routes
+pub mod Sections
+pub mod Views

@@ -1,0 +1,74 @@
+-- What a drive takes at most.
+use Rattle.std.proofs.Common.{◌≡◌, ℕ, suc, ◌+◌, ◌-◌, ◌*◌, ◌^◌, ◌<◌, ◌≤◌, List, [], ◌∷◌, ◌++◌, length, max, min, refl, ◌∙◌, ap, sym, subst, arith}
+use Rattle.std.specs.Prelude.{All, ℤ, pos, ◌+ℤ◌, ◌-ℤ◌, ◌≤ℤ◌}
+use Rattle.std.specs.Int.{int_max}
+use Rattle.std.proofs.lemmas.Int.{ints, clamps}
+use Rattle.std.proofs.lemmas.List.Elements.{All-head, All-tail}
+use Rattle.problem_data.specs.Limits.{largest, largest_leg}
+use Rattle.routing_model.specs.Clock.{Clock, Stop, drive, passed, served, turned_back, waited, walked}
+use Rattle.routing_model.proofs.Walks.{started}
+use Rattle.segments.specs.declared.durations.Drive.{Drive}
+use Rattle.segments.specs.declared.durations.DurationSegment.{DurationSegment}
+use Rattle.segments.specs.Duration.{IsWithinDuration, Stands}
+use Rattle.segments.specs.Totals.{largest_total}
+
+-- no time of the stop is above the largest
+pub record IsTame (stop : Stop) : Type 0 where
+  pub gate : stop.gate ≤ largest
+  pub early : stop.early ≤ largest
+  pub late : stop.late ≤ largest
+  pub service : stop.service ≤ largest
+
+-- what a stop adds at most, to the duration and to the warp
+abbrev pub most_added : ℕ
+most_added = 3 * 10 ^ 12
+
+-- the clock behind a stop and a leg
+pub record IsBehind (before after : Clock) : Type 0 where
+  pub time : after.time ≤ most_added
+  pub duration : after.duration ≤ before.duration + most_added
+  pub warp : after.warp ≤ before.warp + most_added
+
+one_stop : (gate early late service leg time duration warp : ℕ) → gate ≤ largest → early ≤ largest → late ≤ largest → service ≤ largest → leg ≤ largest_leg → time ≤ most_added →
+    IsBehind (record { time = time; duration = duration; warp = warp })
+    (passed leg (passed service (turned_back late (waited early (waited gate (record { time = time; duration = duration; warp = warp }))))))
+one_stop gate early late service leg time duration warp hg he hl hs hleg ht = record { time = omega arith; duration = omega arith; warp = omega arith }
+
+-- what a walk adds at most
+pub record IsSlow (n : ℕ) (before after : Clock) : Type 0 where
+  pub duration : after.duration ≤ before.duration + n * most_added
+  pub warp : after.warp ≤ before.warp + n * most_added
+
+walk-slow : (leg : ℕ → ℕ → ℕ) (stops : List Stop) (c : Clock) → ((from to : ℕ) → leg from to ≤ largest_leg) → All IsTame stops → c.time ≤ most_added →
+    IsSlow (length stops) c (walked leg stops c)
+walk-slow leg [] c short tame in_time = record { duration = omega arith; warp = omega arith }
+walk-slow leg (x ∷ []) c short tame in_time =
+    let first = All-head IsTame x [] tame in
+    let h = one_stop x.gate x.early x.late x.service 0 c.time c.duration c.warp first.gate first.early first.late first.service (omega arith) in_time in
+    record { duration = omega (arith, h.duration); warp = omega (arith, h.warp) }
+walk-slow leg (x ∷ y ∷ rest) c short tame in_time =
+    let first = All-head IsTame x (y ∷ rest) tame in
+    let h = one_stop x.gate x.early x.late x.service (leg x.place y.place) c.time c.duration c.warp first.gate first.early first.late first.service (short x.place y.place) in_time in
+    let k = walk-slow leg (y ∷ rest) (passed (leg x.place y.place) (served x c)) short (All-tail IsTame x (y ∷ rest) tame) h.time in
+    both (length (y ∷ rest)) c (passed (leg x.place y.place) (served x c)) (walked leg (y ∷ rest) (passed (leg x.place y.place) (served x c))) h k
+  where
+    both : (n : ℕ) (a b c : Clock) → IsBehind a b → IsSlow n b c → IsSlow (suc n) a c
+    both n a b c h k = let d = h.duration in let e = k.duration in let v = h.warp in let w = k.warp in record { duration = omega arith; warp = omega arith }
+
+-- the most stops that are driven within the range
+abbrev pub many : ℕ
+many = 3120
+
+-- a segment that stands for so many tame stops is within the range
+pub drive-within : (leg : ℕ → ℕ → ℕ) (segment : DurationSegment) (stops : List Stop) → ((from to : ℕ) → leg from to ≤ largest_leg) → All IsTame stops → length stops ≤ many →
+    Stands leg segment stops → IsWithinDuration segment
+drive-within leg segment stops short tame few stands =
+    let slow = walk-slow leg stops (started 0) short tame (omega arith) in
+    let at_0 = stands.drives 0 (omega arith) in
+    record {
+      duration = least segment.duration (segment.earliest -ℤ pos 0) (drive leg stops 0).duration (length stops) (ap (λ (d : Drive). d.duration) at_0) slow.duration few;
+      warp = least segment.warp (pos 0 -ℤ segment.latest) (drive leg stops 0).warp (length stops) (ap (λ (d : Drive). d.warp) at_0) slow.warp few;
+    }
+  where
+    least : (total more : ℤ) (n k : ℕ) → total +ℤ int_max more (pos 0) ≡ pos n → n ≤ 0 + k * most_added → k ≤ many → total ≤ℤ pos largest_total
+    least total more n k e h few = omega (arith, ints, clamps)

@@ -1,0 +1,14 @@
+pub mod Places
+pub mod Stretches
+pub mod Gates
+pub mod Rests
+pub mod Joining
+pub mod WholeRuns
+pub mod Ends
+pub mod SpanRest
+pub mod Quantities
+pub mod Drives
+pub mod Sizes
+pub mod Within
+pub mod InRange
+pub mod TwoTrips

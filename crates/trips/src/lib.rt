@@ -1,0 +1,20 @@
+//! Trips: what a run of a vehicle's stops adds up to, over reloads and releases.
+//!
+//! A release isn't known at the departure that it holds back while the trip's clients aren't all known. So it is kept beside the
+//! segment of the trip's stops, and applied where the trip is closed, however the list was cut (after the multi-trip segments of
+//! PyVRP; Wouda, Lan and Kool 2024).
+#![tactic(auto)]
+
+mod joints;
+mod laws;
+mod pieces;
+mod spans;
+#[cfg(test)]
+mod tests;
+mod trip_segment;
+
+pub use joints::{Joint, tidy_joint};
+pub use laws::segments_of_runs_are_in_range;
+pub use pieces::{Middle, Piece};
+pub use spans::{Trip, trips_of};
+pub use trip_segment::{RouteSegment, TripSegment};
