@@ -1,10 +1,8 @@
 pub use Rattle.problem_data.specs.Places
-pub use Rattle.vrplib_read.specs.Plain
 pub use Rattle.routing_model.specs.Best
 pub use Rattle.random_model.specs.RandomSolution
 pub use Rattle.vrp_texts.specs.Printed
 pub mod Command
 pub mod EarlySearch
 pub mod Outcomes
-pub mod Simple
 pub mod Words

@@ -1,9 +1,8 @@
 -- What comes of an instance: what the files answered of it, what it is read as, and what the search finds.
-use Rattle.std.specs.Prelude.{◌≡◌, ℕ, Bool, true, false, ⊤, List, [], Option, Some, None, option_map, Ok, pos}
+use Rattle.std.specs.Prelude.{ℕ, Bool, true, false, ⊤, List, [], Option, Some, None, option_map, Result, Ok, Err, pos}
 use Rattle.problem_data.specs.declared.problem.Problem.{Problem}
 use Rattle.vrp_num.specs.declared.rounding.Rounding.TheVariants.{Round}
 use Rattle.vrplib_read.specs.declared.refusal.Refusal.{Refusal}
-use Rattle.vrplib_read.specs.Plain.{IsPlain, later}
 use Rattle.vrplib_read.specs.Reading.{read}
 use Rattle.routing_model.specs.Best.{Best, Found, IsFeasibleBest}
 use Rattle.vrp_texts.specs.Printed.{solution_text}
@@ -27,18 +26,16 @@ pub data Outcome : Type 0 where
   refused : Refusal → Outcome
   solved : Problem → Found → Outcome
 
--- a plain text is read and its problem searched; any other text is refused, at line 0, as one that isn't read yet
-abbrev pub ComesOfText : Search → List ℕ → Outcome → Type 0
-ComesOfText search text unreadable = ⊥
-ComesOfText search text oversized = ⊥
-ComesOfText search text (refused refusal) = ¬ (IsPlain text) × (refusal ≡ later)
-ComesOfText search text (solved problem found) = IsPlain text × (read Round text ≡ Ok problem) × (found ≡ search problem)
+-- what comes of a text that is read: its problem is searched, or it is refused
+abbrev pub outcome_of_reading : Search → Result Problem Refusal → Outcome
+outcome_of_reading search (Ok problem) = solved problem (search problem)
+outcome_of_reading search (Err refusal) = refused refusal
 
 -- what comes of a load
-abbrev pub ComesOf : Search → Load → Outcome → Type 0
-ComesOf search failed outcome = outcome ≡ unreadable
-ComesOf search too_long outcome = outcome ≡ oversized
-ComesOf search (loaded text) outcome = ComesOfText search text outcome
+abbrev pub outcome_of : Search → Load → Outcome
+outcome_of search failed = unreadable
+outcome_of search too_long = oversized
+outcome_of search (loaded text) = outcome_of_reading search (read Round text)
 
 -- a plan that was found is lawful, within every limit, and costs what is said, by all weights
 abbrev pub IsFeasibleOutcome : Outcome → Type 0

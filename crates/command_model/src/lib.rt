@@ -1,6 +1,2 @@
 //! What the command prints and answers, as a function of its words and of what the files answered. Definitions, which contracts cite.
 #![tactic(auto)]
-
-mod laws;
-
-pub use laws::plain_problems_are_simple;

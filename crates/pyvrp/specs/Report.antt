@@ -1,14 +1,13 @@
 -- What the program keeps of an instance, and what it stands for.
-use Rattle.std.specs.Prelude.{Bool, true, false, if◌then◌else◌, int_lt, ◌≡◌, ⊤, ℕ, ℤ, ◌++◌, List, [], ◌∷◌, Option, Some, None, option_map, unwrap_or, pos}
+use Rattle.std.specs.Prelude.{◌≡◌, ⊤, ℕ, ℤ, ◌++◌, List, [], ◌∷◌, Option, Some, None, option_map, unwrap_or, pos}
 use Rattle.problem_data.specs.declared.problem.Problem.{Problem}
+use Rattle.problem_data.specs.declared.problem.Solution.{Solution}
+use Rattle.early_search.specs.declared.search.Found.{Found as SearchFound}
 use Rattle.routing_model.specs.Best.{Best, Found}
 use Rattle.vrplib_read.specs.declared.refusal.ReadFault.{ReadFault}
 use Rattle.vrplib_read.specs.declared.refusal.ReadFault.TheVariants as fault
-use Rattle.routing_model.specs.Cost.{solution_cost}
-use Rattle.routing_model.specs.Feasible.{is_feasible}
 use Rattle.routing_model.specs.Routes.{Routes}
 use Rattle.vrp_texts.specs.Printed.{solution_text}
-use Rattle.command_model.specs.EarlySearch.{first_weights}
 use Rattle.command_model.specs.Outcomes as model
 use Rattle.command_model.specs.Outcomes.{text_of_best}
 use Rattle.command_model.specs.Command.{effects_of}
@@ -28,24 +27,18 @@ pub record Tells (problem : Problem) (found : Found) (answer : Answer) : Type 0 
   pub text : answer.text ≡ unwrap_or (text_of_best problem found.best) []
   pub iterations : answer.iterations ≡ found.iterations
 
--- the cost of a plan where it is feasible
-abbrev pub cost_if_feasible : Problem → Routes → Option ℤ
-cost_if_feasible p routes = if is_feasible p routes then Some (pos (solution_cost p first_weights routes)) else None
+-- the text of a plan with its cost, where there are both
+abbrev pub text_with : Problem → Option Routes → Option ℤ → List ℕ
+text_with p (Some routes) (Some cost) = solution_text p routes cost
+text_with p _ _ = []
 
--- whether a cost is less than another, where none is more than any
-abbrev pub is_better_cost : Option ℤ → Option ℤ → Bool
-is_better_cost None other = false
-is_better_cost (Some cost) None = true
-is_better_cost (Some cost) (Some other) = int_lt cost other
+-- the plan that a search found, if any
+abbrev pub plan_found : SearchFound → Option Routes
+plan_found found = option_map (λ (solution : Solution). solution.routes) found.best
 
--- the text of a plan of this cost, or nothing
-abbrev pub text_with : Problem → Routes → Option ℤ → List ℕ
-text_with p routes None = []
-text_with p routes (Some cost) = solution_text p routes cost
-
--- the answer of a plan of this cost, or of none
-abbrev pub answer_with : Problem → Routes → Option ℤ → ℕ → Answer
-answer_with p routes cost iterations = record { cost = cost; text = text_with p routes cost; iterations = iterations }
+-- the answer of what a search found
+abbrev pub answer_with : Problem → SearchFound → Answer
+answer_with p found = record { cost = found.cost; text = text_with p (plan_found found) found.cost; iterations = found.iterations }
 
 -- the program's outcome stands for one of the definitions
 abbrev pub StandsFor : model.Outcome → Outcome → Type 0

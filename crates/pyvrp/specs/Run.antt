@@ -2,7 +2,7 @@
 use Rattle.std.specs.Prelude.{◌≡◌, ℕ, ◌*◌, ◌^◌, ◌⊎◌, false, List, [], ◌∷◌, ◌++◌, Option, Some, None}
 use Rattle.command_model.specs.Command.{Effects, effects_of, refused_words}
 use Rattle.command_model.specs.EarlySearch.{early_search}
-use Rattle.command_model.specs.Outcomes.{Load, failed, too_long, loaded, Outcome, ComesOf, IsFeasibleOutcome}
+use Rattle.command_model.specs.Outcomes.{Load, failed, too_long, loaded, Outcome, outcome_of, IsFeasibleOutcome}
 use Rattle.command_model.specs.Words.{Asked, base_name}
 use Rattle.batch_run.specs.declared.files.FileFault.{FileFault}
 use Rattle.batch_run.specs.Holding.{Holding}
@@ -77,7 +77,7 @@ pub record RunsInstance (asked : Asked) (files : FilesOfCall) (out err : SinkOfC
   -- the load is the files' answer, within the limit
   pub answer : IsAnswer files asked.path load
   -- the outcome is that of the plain search
-  pub comes : ComesOf (early_search asked.seed asked.iterations) load outcome
+  pub comes : outcome ≡ outcome_of (early_search asked.seed asked.iterations) load
   -- what is printed as feasible is feasible, at its cost
   pub feasible : IsFeasibleOutcome outcome
   pub effects : Delivers (effects_of ((base_name asked.path, outcome) ∷ [])) out err status

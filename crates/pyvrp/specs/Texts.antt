@@ -12,7 +12,7 @@ use Rattle.pyvrp.specs.Run.{FilesOfCall, IsAnswer}
 -- what comes of an instance's bytes, as the program keeps it
 pub record ComesOfBytes (seed iterations : ℕ) (bytes : List ℕ) (shown : Outcome) : Type 0 where
   pub outcome : model.Outcome
-  pub comes : model.ComesOfText (early_search seed iterations) bytes outcome
+  pub comes : outcome ≡ model.outcome_of (early_search seed iterations) (model.loaded bytes)
   pub feasible : model.IsFeasibleOutcome outcome
   pub stands : StandsFor outcome shown
 
@@ -21,7 +21,7 @@ pub record ComesOfPath (seed iterations : ℕ) (path : List ℕ) (files : FilesO
   pub load : model.Load
   pub outcome : model.Outcome
   pub answer : IsAnswer files path load
-  pub comes : model.ComesOf (early_search seed iterations) load outcome
+  pub comes : outcome ≡ model.outcome_of (early_search seed iterations) load
   pub feasible : model.IsFeasibleOutcome outcome
   pub stands : StandsFor outcome shown
 
@@ -40,6 +40,6 @@ pub record HasTextsOf (asked : Asked) (files : FilesOfCall) (texts : Texts) : Ty
   pub load : model.Load
   pub outcome : model.Outcome
   pub answer : IsAnswer files asked.path load
-  pub comes : model.ComesOf (early_search asked.seed asked.iterations) load outcome
+  pub comes : outcome ≡ model.outcome_of (early_search asked.seed asked.iterations) load
   pub feasible : model.IsFeasibleOutcome outcome
   pub effects : IsEffects (effects_of ((base_name asked.path, outcome) ∷ [])) texts

@@ -1,16 +1,10 @@
 //! The routing solver's command: reads an instance, searches routes, prints them and a table, and answers a status.
 #![tactic(auto)]
 
-mod candidates;
-mod client_moves;
-mod descent;
-mod early_search;
-mod near_clients;
+mod answers;
 mod outcome;
-mod random_plan;
 mod report;
 mod run;
-mod simple_cost;
 mod table;
 #[cfg(test)]
 mod tests;

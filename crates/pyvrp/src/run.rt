@@ -1,20 +1,18 @@
 //! The run of the command: from its words to its texts and its status.
-ghost use Rattle.std.specs.Prelude.{◌≡◌, ◌≢◌, IfErr, IfOk, map, string_bytes, true, false};
+ghost use Rattle.std.specs.Prelude.{◌≡◌, ◌≢◌, IfOk, map, string_bytes, true, false};
 ghost use Rattle.command_model.specs.Command.{Effects};
 ghost use Rattle.command_model.specs.Words.{asked};
 ghost use Rattle.pyvrp.specs.Asked.{shown};
-ghost use Rattle.vrplib_read.specs.Plain.{RefusesPlainly};
-ghost use Rattle.pyvrp.specs.Readings.{IsSimpleReading};
 ghost use Rattle.pyvrp.specs.Report.{IsRefusalOf};
 ghost use Rattle.pyvrp.specs.Run.{Delivers, HasFault, HoldsWhole, IsGiven, IsUntouched, Runs, files_of, sink_of};
 ghost use Rattle.pyvrp.specs.Texts.{ComesOfBytes, ComesOfPath, HasTextsOf, IsEffects, TellsEffects};
 
-use crate::early_search::answer_of;
+use crate::answers::answer_of;
 use crate::outcome::Outcome;
 use crate::report::{error_text, output_text, status_of};
 use crate::words::{Asked, base_name, read_words};
 use batch_run::{Files, LoadFault, Sink};
-use problem_data::{NoMemory, Problem};
+use problem_data::NoMemory;
 use std::alloc::Global;
 use std::thread::Threads;
 use vrp_num::Rounding;
@@ -43,14 +41,6 @@ struct Texts {
     status: u8,
 }
 
-/// The problem of a plain text, which is simple.
-fn simple_instance(alloc: Global, bytes: &[u8]) -> Result<Problem, ReadFault>
-    ensures simple { IfOk result (IsSimpleReading bytes.now) }
-    ensures refused { IfErr result (RefusesPlainly bytes.now) }
-{
-    read_instance(alloc, bytes, Rounding::Round)
-}
-
 /// The outcome of a refusal.
 fn refused(fault: ReadFault) -> Result<Outcome, NoMemory>
     ensures { IfOk result (IsRefusalOf fault) }
@@ -71,7 +61,7 @@ fn outcome_of_bytes<R: Threads + Sync>(
 ) -> Result<Outcome, NoMemory>
     ensures { IfOk result (ComesOfBytes seed iterations bytes.now) }
 {
-    match simple_instance(alloc, bytes) {
+    match read_instance(alloc, bytes, Rounding::Round) {
         Ok(problem) => {
             let answer = answer_of(rt, alloc, problem, seed, iterations)?;
             Ok(Outcome::Solved(answer))

@@ -103,7 +103,11 @@ fn says_what_is_not_read(rt: HostRuntime) -> Result<(), NoMemory> {
     check_run(&rt, rt.alloc(), "0", &mut failing, (500, 500), unread)?;
     assert_eq!(rt; failing.faults().len(), 1);
     let mut other = files_with(rt.alloc(), "EOF\n", false)?;
-    let refused = (1, REFUSED_OUTPUT, "pyvrp: three: line 0: rule 14 Later\n");
+    let refused = (
+        1,
+        REFUSED_OUTPUT,
+        "pyvrp: three: line 0: rule 4 Missing DIMENSION\n",
+    );
     check_run(&rt, rt.alloc(), "0", &mut other, (500, 500), refused)?;
     let partly = (4, REFUSED_OUTPUT, "pyvrp: thr");
     check_run(&rt, rt.alloc(), "0", &mut other, (500, 10), partly)

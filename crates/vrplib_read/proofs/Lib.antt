@@ -1,24 +1,41 @@
-mod Cuts
-mod Digits
-mod LegBounds
 mod MoreRows
-mod Names
+mod WorkedRows
+pub mod Accepted
+pub mod Answered
+pub mod CutRows
+pub mod Distinct
+pub mod Driven
+pub mod FieldValues
+pub mod GroupLaws
+pub mod HeldFields
+pub mod LegBounds
+pub mod LegLaws
+pub mod LineLaws
+pub mod LongRowLaws
+pub mod NamedNodes
 pub mod OnLiterals
-mod Outcomes
-pub mod PlainBytes
-pub mod PlainHead
-pub mod PlainItems
-pub mod PlainKinds
-pub mod PlainLaws
-pub mod PlainLegs
-pub mod PlainLookups
-pub mod PlainMeaning
-pub mod PlainReadings
-pub mod PlainRows
-pub mod PlainSteps
-pub mod PlainTold
-pub mod PlainValid
-pub mod PlainWhole
-mod Rows
-mod Spelled
+pub mod ProfileLaws
+pub mod ReadingLaws
+pub mod Repeats
+pub mod RowBounds
+pub mod RowLaws
+pub mod RowNumbers
+pub mod RowOwners
+pub mod RowStages
+pub mod RowTests
+pub mod SectionKeys
+pub mod SectionMaps
+pub mod SoundLines
+pub mod SoundRows
+pub mod Standing
 pub mod Texts
+pub mod TokenLaws
+pub mod TokenWalks
+pub mod TypeLaws
+pub mod ValidFleet
+pub mod ValidGroups
+pub mod ValidLegs
+pub mod ValidPlaces
+pub mod WholeFacts
+pub mod WholeLaws
+pub mod WordLaws

@@ -40,8 +40,6 @@ pub enum Rule {
     BadVehicle,
     /// A group is wrong.
     BadGroup,
-    /// A text that is not plain: other texts are not read yet.
-    Later,
 }
 
 impl Key {
@@ -78,7 +76,6 @@ impl Rule {
             Rule::EmptyWindow => 11,
             Rule::BadVehicle => 12,
             Rule::BadGroup => 13,
-            Rule::Later => 14,
         }
     }
 
@@ -101,7 +98,6 @@ impl Rule {
             Rule::EmptyWindow => "EmptyWindow",
             Rule::BadVehicle => "BadVehicle",
             Rule::BadGroup => "BadGroup",
-            Rule::Later => "Later",
         }
     }
 }

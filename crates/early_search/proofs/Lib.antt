@@ -1,0 +1,17 @@
+pub mod ChangedLists
+pub mod ClientCounts
+pub mod ClientLists
+pub mod ClientMoves
+pub mod DrawnKeys
+pub mod EarlyCandidates
+pub mod EarlyMoves
+pub mod FoundPlans
+pub mod GroupMarks
+pub mod MadeMoves
+pub mod Nearness
+pub mod RandomPlans
+pub mod SampleProblem
+pub mod ShortLists
+pub mod TriedMoves
+pub mod UnusedVehicles
+pub mod WalkSteps

@@ -1,0 +1,4 @@
+pub mod ClientMoves
+pub mod ClientPlans
+pub mod Found
+pub mod RandomPlan

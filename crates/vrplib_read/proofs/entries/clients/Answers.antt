@@ -1,0 +1,16 @@
+use Rattle.std.proofs.Common.{◌+◌, arith}
+use Rattle.std.proofs.lemmas.Grind.{common_steps}
+use Rattle.vrplib_read.specs.Meaning.{client}
+use Rattle.vrplib_read.proofs.RowLaws.{map_counted}
+use Rattle.vrplib_read.proofs.entries.clients.Goals as goal
+
+pub loop-before-preserved : goal.loop-before-preserved
+loop-before-preserved c = λ all st.
+    let mode = c.args.reading.now.mode in
+    grind (
+      arith,
+      common_steps,
+      c.loop-before.invariant all st,
+      c.client.ensures all st,
+      map_counted (client mode all) (c.args.depots + 1) c.loop-before.before (c.args.depots + 1 + c.loop-before.before) (omega arith),
+    )
