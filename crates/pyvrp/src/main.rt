@@ -3,6 +3,8 @@
 
 mod answers;
 mod outcome;
+#[cfg(test)]
+mod plan_tests;
 mod report;
 mod run;
 mod table;

@@ -1,7 +1,7 @@
 -- How many stops, and how large prizes, the runs of a list have.
-use Rattle.std.proofs.Common.{◌≡◌, ℕ, suc, ◌+◌, ◌-◌, ◌*◌, ◌≤◌, Bool, true, false, ◌&&◌, List, [], ◌∷◌, ◌++◌, length, take, drop, map, refl, ◌∙◌, ap, sym, subst, append_assoc, arith, sum_by, length-append, slice_range}
+use Rattle.std.proofs.Common.{◌≡◌, ℕ, ◌+◌, ◌-◌, ◌*◌, ◌≤◌, Bool, true, false, ◌&&◌, List, [], ◌∷◌, ◌++◌, length, drop, refl, ◌∙◌, ap, sym, arith, sum_by, length-append, slice_range}
 use Rattle.std.specs.Prelude.{All, IsTrue}
-use Rattle.std.specs.List.{list_all, list_any}
+use Rattle.std.specs.List.{list_all}
 use Rattle.std.proofs.lemmas.List.Elements.{All-cons, All-drop, All-nil, All-take}
 use Rattle.std.proofs.lemmas.List.Sums.{sum_by-append, sum_by-cons, sum_by-take-drop, sum_by-take-le}
 use Rattle.problem_data.specs.declared.problem.Problem.{Problem}
@@ -11,15 +11,14 @@ use Rattle.problem_data.specs.declared.visit.Visit.TheVariants.{Client, Reload}
 use Rattle.problem_data.specs.Limits.{largest}
 use Rattle.problem_data.specs.Places.{client_at}
 use Rattle.problem_data.specs.Valid.{IsValid, IsValidType}
-use Rattle.routing_model.specs.Clock.{Stop}
 use Rattle.routing_model.specs.Lawful.{names_place}
 use Rattle.routing_model.specs.Routes.{clients_of, is_used}
 use Rattle.routing_model.specs.Stops.{visit_stops}
-use Rattle.routing_model.specs.Tidy.{is_tidy, is_tidy_behind}
+use Rattle.routing_model.specs.Tidy.{is_tidy_behind}
 use Rattle.trips.specs.Laws.{IsInRange, most_stops}
 use Rattle.trips.specs.Runs.{Run, run_stops, stops_before, stops_behind}
 use Rattle.trips.proofs.Quantities.{valid_client_at}
-use Rattle.route_cache.specs.Routes.{IsListed, most_visits}
+use Rattle.route_cache.specs.Routes.{IsListed}
 use Rattle.route_cache.specs.Sections.{prizes_of}
 
 -- how many stops a visit has

@@ -1,27 +1,25 @@
 -- Two sections as one.
-use Rattle.std.proofs.Common.{◌≡◌, ℕ, suc, ◌+◌, ◌*◌, ◌≤◌, List, [], ◌∷◌, ◌++◌, length, refl, ◌∙◌, ap, sym, subst, arith}
-use Rattle.std.specs.Prelude.{ℤ, pos, ◌+ℤ◌, ◌≤ℤ◌}
+use Rattle.std.proofs.Common.{◌≡◌, ℕ, ◌+◌, ◌*◌, ◌≤◌, ◌++◌, refl, ◌∙◌, ap, sym, subst, arith}
+use Rattle.std.specs.Prelude.{ℤ, pos, ◌≤ℤ◌}
 use Rattle.std.proofs.lemmas.Int.{ints}
 use Rattle.problem_data.specs.declared.problem.Problem.{Problem}
 use Rattle.problem_data.specs.declared.problem.VehicleType.{VehicleType}
 use Rattle.problem_data.specs.Limits.{largest, largest_leg}
 use Rattle.problem_data.specs.Places.{leg_distance, leg_duration}
-use Rattle.routing_model.specs.Clock.{Stop, joint}
+use Rattle.routing_model.specs.Clock.{joint}
 use Rattle.routing_model.specs.Cost.{length_of}
-use Rattle.segments.specs.declared.distances.DistanceSegment.{DistanceSegment}
 use Rattle.segments.specs.Distance.{IsSoundDistance, IsWithinDistance, JoinsLengths, StandsForLength, merged_distance}
 use Rattle.segments.specs.Totals.{IsJoint, largest_total}
 use Rattle.segments.proofs.StopLengths.{merged-joins_lengths}
-use Rattle.trips.specs.declared.trip_segment.TripSegment.{TripSegment}
 use Rattle.trips.specs.Conditions.{CanMerge, IsSoundTrips}
 use Rattle.trips.specs.Laws.{IsInRange, most_stops}
-use Rattle.trips.specs.Runs.{Run, Follows, followed_by, run_stops}
-use Rattle.trips.specs.Standing.{JoinsRuns, StandsForRun}
+use Rattle.trips.specs.Runs.{Run, followed_by, run_stops}
+use Rattle.trips.specs.Standing.{JoinsRuns}
 use Rattle.trips.proofs.InRange.{runs-can}
 use Rattle.trips.proofs.Quantities.{distance-short}
 use Rattle.trips.proofs.Within.{joint-in_range}
 use Rattle.route_cache.specs.declared.sections.Section.{Section}
-use Rattle.route_cache.specs.Sections.{CanMergeSections, FitTogether, HoldsRun, JoinsAt, JoinsSections, Leaves, Reaches, prizes_of}
+use Rattle.route_cache.specs.Sections.{CanMergeSections, FitTogether, JoinsAt, JoinsSections, prizes_of}
 use Rattle.route_cache.proofs.Counts.{prizes-append, prizes-run}
 use Rattle.route_cache.proofs.Places.{joint-at, length-bound, places-runs, same_length}
 

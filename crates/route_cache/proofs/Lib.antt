@@ -4,4 +4,5 @@ pub mod Joins
 pub mod Types
 pub mod Visits
 pub mod Views
+pub mod LentRuns
 pub mod Steps

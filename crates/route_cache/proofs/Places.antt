@@ -1,12 +1,12 @@
 -- The places of runs, and their legs.
-use Rattle.std.proofs.Common.{◌≡◌, ℕ, suc, ◌+◌, ◌*◌, ◌≤◌, Bool, true, false, List, [], ◌∷◌, ◌++◌, length, map, refl, ◌∙◌, ap, sym, subst, append_assoc, arith, Option, Some, None, ◌<◌, get_or, take}
+use Rattle.std.proofs.Common.{◌≡◌, ℕ, suc, ◌+◌, ◌*◌, ◌≤◌, Bool, true, false, List, [], ◌∷◌, ◌++◌, length, map, refl, ◌∙◌, ap, sym, append_assoc, arith, Option, Some, None, ◌<◌, get_or, take}
 use Rattle.std.proofs.lemmas.List.{append-nil, take_all, take_more}
 use Rattle.problem_data.specs.declared.problem.Problem.{Problem}
 use Rattle.problem_data.specs.declared.problem.VehicleType.{VehicleType}
 use Rattle.problem_data.specs.declared.visit.Visit.{Visit}
 use Rattle.problem_data.specs.declared.visit.Visit.TheVariants.{Client, Reload}
 use Rattle.problem_data.specs.Limits.{largest_leg}
-use Rattle.problem_data.specs.Places.{client_at, depot_at}
+use Rattle.problem_data.specs.Places.{depot_at}
 use Rattle.routing_model.specs.Clock.{Stop, joint, last_place}
 use Rattle.routing_model.specs.Cost.{length_of}
 use Rattle.routing_model.specs.Stops.{stop_at, trip_release, visit_stops}

@@ -11,15 +11,13 @@ use Rattle.problem_data.specs.declared.visit.Visit.{Visit}
 use Rattle.problem_data.specs.declared.visit.Visit.TheVariants.{Client, Reload}
 use Rattle.problem_data.specs.Places.{leg_distance, place_count}
 use Rattle.problem_data.specs.Valid.{IsValid, IsValidType}
-use Rattle.routing_model.specs.Cost.{distance, length_of}
 use Rattle.routing_model.specs.Lawful.{names_place}
 use Rattle.routing_model.specs.Stops.{stops}
-use Rattle.trips.specs.declared.trip_segment.TripSegment.{TripSegment}
 use Rattle.trips.specs.declared.trip_segment.RouteSegment.{RouteSegment}
 use Rattle.trips.specs.Conditions.{CanClose, IsSoundRoute}
 use Rattle.trips.specs.Laws.{IsInRange}
 use Rattle.trips.specs.Runs.{Run, followed_by, run_stops, whole}
-use Rattle.trips.specs.Standing.{ClosesRun, StandsForRun}
+use Rattle.trips.specs.Standing.{ClosesRun}
 use Rattle.trips.proofs.InRange.{whole-can}
 use Rattle.route_cache.specs.declared.sections.Section.{Section}
 use Rattle.route_cache.specs.Caching.{IsWhole}

@@ -1,14 +1,14 @@
 -- What the sections of single visits hold.
-use Rattle.std.proofs.Common.{◌≡◌, ℕ, ◌+◌, ◌<◌, List, [], ◌∷◌, length, get_or, refl, ◌∙◌, ap, sym, subst, arith}
-use Rattle.std.specs.Prelude.{pos, IsTrue, unwrap_or, slice_get}
+use Rattle.std.proofs.Common.{◌≡◌, ℕ, ◌+◌, ◌<◌, List, get_or, ◌∙◌, ap, sym, subst, arith}
+use Rattle.std.specs.Prelude.{pos, IsTrue}
 use Rattle.std.proofs.lemmas.Bool.Decides.{nat_tests}
 use Rattle.std.proofs.lemmas.Int.{ints}
 use Rattle.std.proofs.lemmas.Option.{unwrap_or-slice_get}
 use Rattle.problem_data.specs.declared.problem.Problem.{Problem}
 use Rattle.problem_data.specs.declared.problem.Depot.{Depot}
 use Rattle.problem_data.specs.declared.problem.VehicleType.{VehicleType}
-use Rattle.problem_data.specs.declared.visit.Visit.TheVariants.{Client, Reload}
-use Rattle.problem_data.specs.Places.{depot_at, depot_count, is_depot_place, leg_distance, no_window, place_count, profile_at}
+use Rattle.problem_data.specs.declared.visit.Visit.TheVariants.{Reload}
+use Rattle.problem_data.specs.Places.{depot_at, depot_count, is_depot_place, leg_distance, no_window}
 use Rattle.problem_data.specs.Valid.{IsValid, IsValidType}
 use Rattle.segments.specs.Distance.{IsSoundDistance, no_distance}
 use Rattle.segments.specs.declared.distances.DistanceSegment.{DistanceSegment}
@@ -17,7 +17,7 @@ use Rattle.trips.specs.Conditions.{IsSoundTrips}
 use Rattle.trips.specs.Standing.{StandsForReload, StandsForRun}
 use Rattle.trips.proofs.Rests.{valid_profile_at}
 use Rattle.route_cache.specs.declared.sections.Section.{Section}
-use Rattle.route_cache.specs.Sections.{HoldsRun, HoldsVisit, alone}
+use Rattle.route_cache.specs.Sections.{HoldsVisit, alone}
 
 abbrev pub no_depot : Depot
 no_depot = record { window = no_window; service = 0 }

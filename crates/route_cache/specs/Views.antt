@@ -1,5 +1,5 @@
 -- What a view tells of the stops and visits that it stands for.
-use Rattle.std.specs.Prelude.{◌≡◌, ℕ, ◌≤◌, ℤ, pos, List, length, IsTrue}
+use Rattle.std.specs.Prelude.{◌≡◌, ◌≤◌, ℤ, pos, length, IsTrue}
 use Rattle.std.specs.List.{list_all}
 use Rattle.problem_data.specs.declared.problem.VehicleType.{VehicleType}
 use Rattle.problem_data.specs.Places.{leg_distance}
@@ -10,7 +10,7 @@ use Rattle.trips.specs.declared.trip_segment.TripSegment.{TripSegment}
 use Rattle.trips.specs.Runs.{run_stops}
 use Rattle.trips.specs.Standing.{StandsForRun}
 use Rattle.route_cache.specs.declared.sections.Section.{Section}
-use Rattle.route_cache.specs.Routes.{IsTypeFor, ViewState, lent, run_of}
+use Rattle.route_cache.specs.Routes.{IsTypeFor, ViewState, run_of}
 use Rattle.route_cache.specs.Sections.{HoldsRun}
 
 -- a view of a valid problem, with what its run adds up to

@@ -4,8 +4,8 @@ ghost use Rattle.trips.proofs.TwoTrips.{fives, one_vehicle, two_trips};
 use super::*;
 use problem_data::{
     Client, ClientList, Depot, DepotList, GroupList, Matrix, NoMemory, Place, PlaceList,
-    PlaceTable, Problem, ProblemData, Profile, ProfileList, Steps, TypeList, VehicleType, Visit,
-    Window,
+    PlaceTable, Problem, ProblemData, Profile, ProfileList, Reads, Steps, TypeList, VehicleType,
+    Visit, Window,
 };
 use segments::DurationSegment;
 use std::alloc::Global;
@@ -88,18 +88,20 @@ fn vehicle(alloc: Global) -> Result<VehicleType, NoMemory>
     })
 }
 
+/// How long the vehicle with the list `1 |0 2` drives: 35, from a start at 5.
+const DRIVEN: DurationSegment = DurationSegment {
+    duration: 35,
+    warp: 0,
+    earliest: 5,
+    latest: 5,
+};
+
 /// Looks at the views of the list `1 |0 2`.
 fn look(rt: &impl Abort, given: &ProblemData, route: &Route<'_>)
     requires given { given.now ≡ two_trips }
     requires route { route.now ≡ record { problem = two_trips; vehicle = 0; visits = Visit.Client 1 ∷ Visit.Reload 0 ∷ Visit.Client 2 ∷ [] } }
 {
-    let wanted = DurationSegment {
-        duration: 35,
-        warp: 0,
-        earliest: 5,
-        latest: 5,
-    };
-    assert_eq!(rt; route.segment().duration, wanted);
+    assert_eq!(rt; route.segment().duration, DRIVEN);
     assert_eq!(rt; route.distance(), 20);
     assert_eq!(rt; route.trips().len(), 2);
     assert_eq!(rt; route.before(0).visits().len(), 0);
@@ -114,6 +116,20 @@ fn look(rt: &impl Abort, given: &ProblemData, route: &Route<'_>)
     );
 }
 
+/// Merges three views of the list `1 |0 2`: the start with the first client, the reload, and the second client with the end.
+fn merge_views(rt: &impl Abort, route: &Route<'_>, reads: &mut Steps<Reads>)
+    requires { route.now ≡ record { problem = two_trips; vehicle = 0; visits = Visit.Client 1 ∷ Visit.Reload 0 ∷ Visit.Client 2 ∷ [] } }
+{
+    let first = route.before(1).segment();
+    let reload = route.between(2, 2, reads).segment();
+    let second = route.after(3).segment();
+    let front = first.merge(reload, 5, 10);
+    let all = front.merge(second, 5, 10);
+    let whole = all.close(10);
+    assert_eq!(rt; whole.duration, DRIVEN);
+    assert_eq!(rt; whole.excess, 0);
+}
+
 #[test]
 fn views_of_two_trips(rt: HostRuntime) -> Result<(), Fail> {
     let alloc = rt.alloc();
@@ -125,5 +141,6 @@ fn views_of_two_trips(rt: HostRuntime) -> Result<(), Fail> {
     look(&rt, &given, &route);
     let middle = route.between(2, 2, &mut reads);
     assert_eq!(rt; middle.visits(), [Visit::Reload(0)].as_slice());
+    merge_views(&rt, &route, &mut reads);
     Ok(())
 }

@@ -103,7 +103,7 @@ impl DurationSegment {
         self.duration
     }
 
-    // from the start of this segment to the start of the next one, where this one is started in time
+    /// From the start of this segment to the start of the next one, where this one is started in time.
     fn shift(self, joint: i64) -> i64
         requires sound { IsSoundDuration self }
         requires joint { IsJoint joint }
@@ -114,7 +114,7 @@ impl DurationSegment {
         net + joint
     }
 
-    // how long the latest start still waits for the next segment
+    /// How long the latest start still waits for the next segment.
     fn wait_for(self, right: Self, shift: i64) -> i64
         requires left { IsSoundDuration self }
         requires right { IsSoundDuration right }
@@ -125,7 +125,7 @@ impl DurationSegment {
         (right.earliest - shift - self.latest).max(0)
     }
 
-    // how far the earliest start is too late for the next segment
+    /// How far the earliest start is too late for the next segment.
     fn warp_to(self, right: Self, shift: i64) -> i64
         requires left { IsSoundDuration self }
         requires right { IsSoundDuration right }
@@ -136,7 +136,7 @@ impl DurationSegment {
         (self.earliest + shift - right.latest).max(0)
     }
 
-    // the later one of both earliest starts
+    /// The later one of both earliest starts.
     fn earliest_with(self, right: Self, shift: i64) -> i64
         requires left { IsSoundDuration self }
         requires right { IsSoundDuration right }
@@ -147,7 +147,7 @@ impl DurationSegment {
         (right.earliest - shift).max(self.earliest)
     }
 
-    // the earlier one of both latest starts
+    /// The earlier one of both latest starts.
     fn latest_with(self, right: Self, shift: i64) -> i64
         requires left { IsSoundDuration self }
         requires right { IsSoundDuration right }

@@ -1,19 +1,16 @@
 -- What the segments of a start, an end and a reload stand for.
-use Rattle.std.proofs.Common.{◌≡◌, ℕ, List, [], ◌∷◌, refl, sym, subst, true, false, ap}
+use Rattle.std.proofs.Common.{◌≡◌, ℕ, [], ◌∷◌, refl, sym, subst}
 use Rattle.std.specs.Prelude.{pos}
-use Rattle.problem_data.specs.declared.problem.Problem.{Problem}
 use Rattle.problem_data.specs.declared.problem.Depot.{Depot}
 use Rattle.problem_data.specs.declared.problem.Window.{Window}
-use Rattle.problem_data.specs.declared.problem.VehicleType.{VehicleType}
-use Rattle.problem_data.specs.declared.visit.Visit.TheVariants.{Client, Reload}
 use Rattle.problem_data.specs.Places.{depot_at, leg_duration}
 use Rattle.routing_model.specs.Stops.{met, stop_at}
-use Rattle.segments.specs.Duration.{StandsForNothing, no_duration}
+use Rattle.segments.specs.Duration.{StandsForNothing}
 use Rattle.trips.specs.declared.pieces.Piece.{Piece}
 use Rattle.trips.specs.declared.pieces.Middle.{Middle}
 use Rattle.trips.specs.declared.trip_segment.TripSegment.TheVariants.{Open, Split}
-use Rattle.trips.specs.Runs.{Stretch, arrival_stop, departure_stop, end_stop, start_stop, stretches}
-use Rattle.trips.specs.Standing.{StandsAtDepot, StandsForEnd, StandsForReload, StandsForRun, StandsForStart, StandsForStretch}
+use Rattle.trips.specs.Runs.{Stretch}
+use Rattle.trips.specs.Standing.{StandsAtDepot, StandsForEnd, StandsForReload, StandsForStart, StandsForStretch}
 
 -- a stretch of one stop at a depot
 abbrev alone : ℕ → Window → ℕ → Stretch

@@ -8,7 +8,7 @@ use Rattle.problem_data.specs.declared.visit.Visit.{Visit}
 use Rattle.problem_data.specs.declared.visit.Visit.TheVariants.{Client, Reload}
 use Rattle.problem_data.specs.Places.{client_at}
 use Rattle.routing_model.specs.Clock.{Stop}
-use Rattle.routing_model.specs.Load.{excess_load, first_trip, later_trips, trip_load, trips}
+use Rattle.routing_model.specs.Load.{excess_load, first_trip, later_trips, trip_load}
 use Rattle.routing_model.specs.Stops.{stops, trip_release, visit_stops}
 use Rattle.trips.specs.Runs.{Run, Stretch, arrival_stop, client_stop, departure_stop, end_stop, first_stops, largest_release, later_stretches, start_stop, stops_before, stops_behind, stretches, trip_excess, trip_stops, whole}
 use Rattle.trips.proofs.Stretches.{parts, parts-client}

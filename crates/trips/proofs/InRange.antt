@@ -1,26 +1,24 @@
 -- Segments that stand for runs of few stops can be merged and closed.
-use Rattle.std.proofs.Common.{◌≡◌, ℕ, ◌≤◌, List, [], ◌∷◌, ◌++◌, length, refl, ◌∙◌, ap, sym, subst}
+use Rattle.std.proofs.Common.{◌≡◌, List, [], ◌∷◌, ◌++◌, refl, ◌∙◌, ap, subst}
 use Rattle.std.specs.Prelude.{ℤ, pos}
 use Rattle.problem_data.specs.declared.problem.Problem.{Problem}
 use Rattle.problem_data.specs.declared.problem.VehicleType.{VehicleType}
-use Rattle.problem_data.specs.declared.visit.Visit.{Visit}
 use Rattle.problem_data.specs.Places.{leg_duration}
 use Rattle.routing_model.specs.Clock.{joint}
 use Rattle.segments.specs.Totals.{IsJoint}
 use Rattle.trips.specs.declared.pieces.Piece.{Piece}
 use Rattle.trips.specs.declared.pieces.Middle.{Middle}
-use Rattle.trips.specs.declared.trip_segment.TripSegment.{TripSegment}
 use Rattle.trips.specs.declared.trip_segment.TripSegment.TheVariants.{Open, Split}
-use Rattle.trips.specs.Conditions.{CanClose, CanCloseSplit, CanMerge, CanMergeBetween, IsSoundSplit, IsSoundTrips}
+use Rattle.trips.specs.Conditions.{CanMergeBetween, IsSoundSplit}
 use Rattle.trips.specs.Laws.{IsInRange, RunsCanBeMerged, WholeRunsCanBeClosed}
 use Rattle.trips.specs.Merging.{closed_piece, merged_middle, merged_piece}
 use Rattle.trips.specs.Runs.{Run, Stretch, Follows, followed_by, run_stops, stretches, whole}
-use Rattle.trips.specs.Standing.{StandsCut, StandsForRun, StandsUncut}
+use Rattle.trips.specs.Standing.{StandsCut}
 use Rattle.trips.proofs.Joining.{middles-joined, piece-closed, pieces-joined}
 use Rattle.trips.proofs.Quantities.{duration-short}
 use Rattle.trips.proofs.Rests.{Rests, begins, rests-front, rests-run, rests-tail}
 use Rattle.trips.proofs.Sizes.{IsFew, few-back, few-front, few-run, few-tail}
-use Rattle.trips.proofs.Stretches.{joined, joint-runs, stretches-glued}
+use Rattle.trips.proofs.Stretches.{joined, stretches-glued}
 use Rattle.trips.proofs.WholeRuns.{leg_is, regrouped, whole-begins}
 use Rattle.trips.proofs.Within.{closed_piece-sound, joint-in_range, merged_middle-sound, merged_piece-sound, middles-can, piece-can_close, pieces-can}
 

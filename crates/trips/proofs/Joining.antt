@@ -1,5 +1,5 @@
 -- What merging and closing stand for.
-use Rattle.std.proofs.Common.{◌≡◌, ℕ, ◌+◌, ◌-◌, max, Bool, true, false, List, [], ◌∷◌, ◌++◌, refl, ◌∙◌, ap, sym, subst, append_assoc, flat_map, sum_by, Option, Some, None, arith}
+use Rattle.std.proofs.Common.{◌≡◌, ℕ, ◌+◌, ◌-◌, max, List, [], ◌∷◌, ◌++◌, refl, ap, sym, subst, flat_map, sum_by, Some, None, arith}
 use Rattle.std.specs.Prelude.{ℤ, pos, ◌+ℤ◌, ◌-ℤ◌, ◌≤ℤ◌}
 use Rattle.std.specs.Int.{int_max}
 use Rattle.std.proofs.lemmas.Int.{ints, clamps}
@@ -8,29 +8,23 @@ use Rattle.std.proofs.lemmas.List.Concat.{flat_map-append}
 use Rattle.std.proofs.lemmas.List.Sums.{sum_by-append}
 use Rattle.problem_data.specs.declared.problem.Problem.{Problem}
 use Rattle.problem_data.specs.declared.problem.VehicleType.{VehicleType}
-use Rattle.problem_data.specs.declared.visit.Visit.{Visit}
-use Rattle.problem_data.specs.Places.{client_at, leg_duration}
+use Rattle.problem_data.specs.Places.{leg_duration}
 use Rattle.routing_model.specs.Clock.{Stop, joint, released_at}
 use Rattle.routing_model.specs.Load.{trip_load}
 use Rattle.segment_model.specs.Span.{latest_moment}
 use Rattle.segments.specs.declared.durations.DurationSegment.{DurationSegment}
-use Rattle.segments.specs.declared.loads.LoadSegment.{LoadSegment}
-use Rattle.segments.specs.Duration.{IsSoundDuration, Stands, merged_duration, released_from}
-use Rattle.segments.specs.Totals.{latest_release}
+use Rattle.segments.specs.Duration.{Stands, merged_duration, released_from}
 use Rattle.segments.proofs.Standing.{merged-joins, released-releases}
 use Rattle.segments.proofs.TripLoads.{merged-joins_loads}
 use Rattle.trips.specs.declared.pieces.Piece.{Piece}
 use Rattle.trips.specs.declared.pieces.Middle.{Middle}
-use Rattle.trips.specs.declared.trip_segment.TripSegment.{TripSegment}
-use Rattle.trips.specs.declared.trip_segment.TripSegment.TheVariants.{Open, Split}
-use Rattle.trips.specs.Conditions.{CanClose, CanMerge, CanMergeMiddles, CanMergePieces, IsSoundMiddle, IsSoundPiece, IsSoundTrips}
-use Rattle.trips.specs.Merging.{closed_piece, closed_trips, excess_above, merged_middle, merged_piece, merged_trips}
-use Rattle.trips.specs.Runs.{Run, Stretch, Follows, IsRunOf, followed_by, largest_release, run_stops, stretches, trip_excess, trip_stops, whole}
-use Rattle.trips.specs.Standing.{ClosesRun, JoinsRuns, StandsCut, StandsForRoute, StandsForRun, StandsForStretch, StandsForStretches, StandsForTrips, StandsUncut}
-use Rattle.trips.proofs.Gates.{excess-run, stops-whole}
+use Rattle.trips.specs.Conditions.{IsSoundMiddle, IsSoundPiece}
+use Rattle.trips.specs.Merging.{closed_piece, merged_middle, merged_piece}
+use Rattle.trips.specs.Runs.{Stretch, largest_release, trip_excess, trip_stops}
+use Rattle.trips.specs.Standing.{StandsForStretch, StandsForTrips}
 use Rattle.trips.proofs.Places.{first_of}
-use Rattle.trips.proofs.Rests.{Rests, begins, joint-trips, rests-front, rests-run, rests-tail}
-use Rattle.trips.proofs.Stretches.{joined, joint-runs, stretches-glued}
+use Rattle.trips.proofs.Rests.{Rests, joint-trips}
+use Rattle.trips.proofs.Stretches.{joined}
 
 -- the largest release of clients and more clients
 largest_release-append : (p : Problem) (xs ys : List ℕ) → largest_release p (xs ++ ys) ≡ max (largest_release p xs) (largest_release p ys)

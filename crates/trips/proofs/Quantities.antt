@@ -1,5 +1,5 @@
 -- The quantities of a valid problem, also at places that aren't there.
-use Rattle.std.proofs.Common.{◌≡◌, ℕ, ◌+◌, ◌-◌, ◌*◌, ◌<◌, ◌≤◌, ◌⊎◌, inl, inr, List, [], ◌∷◌, ◌++◌, length, get_or, max, refl, ◌∙◌, ap, sym, subst, arith}
+use Rattle.std.proofs.Common.{◌≡◌, ℕ, ◌-◌, ◌<◌, ◌≤◌, ◌⊎◌, inl, inr, List, length, get_or, sym, subst, arith}
 use Rattle.std.specs.Prelude.{All, None, unwrap_or, slice_get}
 use Rattle.std.proofs.lemmas.List.{get_or_past}
 use Rattle.std.proofs.lemmas.List.Elements.{All-get_or}
@@ -8,9 +8,9 @@ use Rattle.problem_data.specs.declared.problem.Problem.{Problem}
 use Rattle.problem_data.specs.declared.problem.Client.{Client}
 use Rattle.problem_data.specs.declared.problem.Depot.{Depot}
 use Rattle.problem_data.specs.declared.problem.VehicleType.{VehicleType}
-use Rattle.problem_data.specs.Limits.{largest, largest_leg}
+use Rattle.problem_data.specs.Limits.{largest_leg}
 use Rattle.problem_data.specs.Places.{client_at, depot_at, depot_count, leg_distance, leg_duration, no_window, place_count, profile_at}
-use Rattle.problem_data.specs.Valid.{IsValid, IsValidClient, IsValidDepot, IsValidProfile, IsValidType, IsValidWindow}
+use Rattle.problem_data.specs.Valid.{IsValid, IsValidClient, IsValidDepot, IsValidProfile, IsValidType}
 use Rattle.trips.proofs.Rests.{valid_profile_at}
 
 -- what holds of each item and of what stands for a missing one holds of each look-up

@@ -1,6 +1,6 @@
 -- From one stretch to the next a vehicle stays where it is: it arrives at a depot and departs from there.
-use Rattle.std.proofs.Common.{◌≡◌, ℕ, ◌<◌, Bool, true, List, [], ◌∷◌, ◌++◌, length, get_or, refl, ◌∙◌, ap, sym, subst, append_assoc, flat_map, Option, Some, None, arith}
-use Rattle.std.specs.Prelude.{All, IsTrue, unwrap_or, slice_get}
+use Rattle.std.proofs.Common.{◌≡◌, ℕ, ◌<◌, List, [], ◌∷◌, ◌++◌, length, refl, ◌∙◌, ap, sym, subst, flat_map, Some, None, arith}
+use Rattle.std.specs.Prelude.{All, IsTrue}
 use Rattle.std.proofs.lemmas.List.{append-nil}
 use Rattle.std.proofs.lemmas.List.Elements.{All-get_or, All-head, All-tail}
 use Rattle.std.proofs.lemmas.Option.{unwrap_or-slice_get}
@@ -16,7 +16,7 @@ use Rattle.problem_data.specs.Valid.{IsValid, IsValidProfile, IsValidType}
 use Rattle.routing_model.specs.Clock.{Stop, joint}
 use Rattle.routing_model.specs.Lawful.{names_place}
 use Rattle.trips.specs.Runs.{Run, Stretch, IsRunOf, arrival_stop, client_stop, departure_stop, stops_before, stops_behind, stretches, trip_stops, largest_release}
-use Rattle.trips.proofs.Places.{first_of, first_of-append, first_of-released, joint-nothing, joint_at, last_of, last_of-append, last_of-released, same_joint}
+use Rattle.trips.proofs.Places.{first_of, first_of-append, first_of-released, joint-nothing, joint_at, last_of, last_of-append, last_of-released}
 use Rattle.trips.proofs.Stretches.{parts, parts-client}
 
 -- one stretch ends where the next begins, and nothing is driven there

@@ -1,5 +1,5 @@
 -- How many stops and clients stretches have, and that their times are tame.
-use Rattle.std.proofs.Common.{◌≡◌, ℕ, ◌+◌, ◌-◌, ◌*◌, ◌<◌, ◌≤◌, Bool, true, false, List, [], ◌∷◌, ◌++◌, length, max, refl, ◌∙◌, ap, sym, subst, arith, sum_by, flat_map, length-append, append_assoc}
+use Rattle.std.proofs.Common.{◌≡◌, ℕ, ◌+◌, ◌≤◌, Bool, true, false, List, [], ◌∷◌, ◌++◌, length, max, refl, ◌∙◌, ap, sym, subst, arith, sum_by, flat_map, length-append}
 use Rattle.std.specs.Prelude.{All}
 use Rattle.std.proofs.lemmas.List.Elements.{All-append, All-cons, All-head, All-nil, All-tail}
 use Rattle.std.proofs.lemmas.List.Sums.{sum_by-append, sum_by-cons}
@@ -8,12 +8,10 @@ use Rattle.problem_data.specs.declared.problem.VehicleType.{VehicleType}
 use Rattle.problem_data.specs.declared.visit.Visit.{Visit}
 use Rattle.problem_data.specs.declared.visit.Visit.TheVariants.{Client, Reload}
 use Rattle.problem_data.specs.Limits.{largest}
-use Rattle.problem_data.specs.Places.{client_at, depot_at}
 use Rattle.problem_data.specs.Valid.{IsValid, IsValidType}
 use Rattle.routing_model.specs.Clock.{Stop, released_at}
-use Rattle.routing_model.specs.Load.{first_trip}
 use Rattle.routing_model.specs.Stops.{visit_stops}
-use Rattle.trips.specs.Runs.{Run, Stretch, IsRunOf, arrival_stop, client_stop, departure_stop, end_stop, first_stops, largest_release, later_stretches, run_stops, start_stop, stops_before, stops_behind, stretches, trip_stops}
+use Rattle.trips.specs.Runs.{Run, Stretch, IsRunOf, arrival_stop, client_stop, departure_stop, end_stop, largest_release, run_stops, start_stop, stops_before, stops_behind, stretches, trip_stops}
 use Rattle.trips.proofs.Drives.{IsTame, many}
 use Rattle.trips.proofs.Quantities.{valid_client_at, valid_depot_at}
 use Rattle.trips.proofs.Stretches.{parts, parts-client}

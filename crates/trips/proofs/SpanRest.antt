@@ -1,9 +1,9 @@
 -- The trips of the visits that are left, where the first of them has begun.
-use Rattle.std.proofs.Common.{◌≡◌, ℕ, suc, ◌+◌, ◌<◌, ◌≤◌, List, [], ◌∷◌, ◌++◌, length, take, drop, map, refl, ◌∙◌, ap, sym, append_assoc, arith, slice_range, ◌-◌, length-append}
+use Rattle.std.proofs.Common.{◌≡◌, ℕ, suc, ◌+◌, List, [], ◌∷◌, ◌++◌, length, take, drop, map, refl, ◌∙◌, ap, sym, append_assoc, arith, slice_range, ◌-◌, length-append}
 use Rattle.std.proofs.lemmas.List.{append-nil}
 use Rattle.problem_data.specs.declared.visit.Visit.{Visit}
 use Rattle.problem_data.specs.declared.visit.Visit.TheVariants.{Client, Reload}
-use Rattle.routing_model.specs.Load.{first_trip, later_trips, trips}
+use Rattle.routing_model.specs.Load.{first_trip, later_trips}
 use Rattle.trips.specs.declared.spans.Trip.{Trip}
 use Rattle.trips.specs.Spans.{spans_from, trips_in, trip_visits, visits_of}
 

@@ -1,6 +1,6 @@
 -- A small problem with a release, and the runs of one of its lists.
-use Rattle.std.proofs.Common.{◌≡◌, ℕ, zero, suc, ◌<◌, ◌≤◌, ◌-◌, ◌^◌, true, false, List, [], ◌∷◌, ◌++◌, length, replicate, refl, ap, sym, subst, inr, arith, lit≤, lit<}
-use Rattle.std.specs.Prelude.{All, Contains, IsTrue, None, slice_get, unwrap_or, ℤ, pos}
+use Rattle.std.proofs.Common.{◌≡◌, ℕ, zero, suc, ◌<◌, ◌≤◌, ◌-◌, ◌^◌, true, false, List, [], ◌∷◌, length, replicate, refl, ap, subst, inr, arith, lit≤, lit<}
+use Rattle.std.specs.Prelude.{All, Contains, IsTrue, None, slice_get, unwrap_or, pos}
 use Rattle.std.specs.List.{IsDistinct}
 use Rattle.std.proofs.lemmas.List.Elements.{All-from_recursion}
 use Rattle.problem_data.specs.declared.problem.Problem.{Problem}
@@ -13,7 +13,7 @@ use Rattle.problem_data.specs.declared.visit.Visit.TheVariants.{Client, Reload}
 use Rattle.problem_data.specs.Limits.{largest_leg}
 use Rattle.problem_data.specs.Matrix.{Table, entry}
 use Rattle.problem_data.specs.Places.{client_at, group_at, leg_duration}
-use Rattle.problem_data.specs.Valid.{IsValid, IsValidPlace, IsValidWindow, IsValidDepot, IsValidClient, IsValidTable, IsValidProfile, IsValidType, IsValidGroup, IsGroupedAsListed}
+use Rattle.problem_data.specs.Valid.{IsValid, IsValidPlace, IsValidDepot, IsValidClient, IsValidTable, IsValidProfile, IsValidType, IsValidGroup, IsGroupedAsListed}
 use Rattle.routing_model.specs.Clock.{joint}
 use Rattle.routing_model.specs.Lawful.{names_place}
 use Rattle.trips.specs.declared.trip_segment.TripSegment.{TripSegment}

@@ -1,5 +1,5 @@
 -- What merging and closing segments of trips stand for, in all cases.
-use Rattle.std.proofs.Common.{◌≡◌, ℕ, List, [], ◌∷◌, ◌++◌, refl, ◌∙◌, ap, sym, subst, append_assoc, flat_map, sum_by, Option, Some, None, true}
+use Rattle.std.proofs.Common.{◌≡◌, ℕ, List, [], ◌∷◌, ◌++◌, ◌∙◌, ap, sym, subst, append_assoc, Some}
 use Rattle.std.specs.Prelude.{ℤ, pos}
 use Rattle.problem_data.specs.declared.problem.Problem.{Problem}
 use Rattle.problem_data.specs.declared.problem.VehicleType.{VehicleType}
@@ -11,10 +11,10 @@ use Rattle.trips.specs.declared.pieces.Piece.{Piece}
 use Rattle.trips.specs.declared.pieces.Middle.{Middle}
 use Rattle.trips.specs.declared.trip_segment.TripSegment.{TripSegment}
 use Rattle.trips.specs.declared.trip_segment.TripSegment.TheVariants.{Open, Split}
-use Rattle.trips.specs.Conditions.{CanClose, CanCloseSplit, CanClosePiece, CanMerge, CanMergeBetween}
+use Rattle.trips.specs.Conditions.{CanClose, CanMerge, CanMergeBetween}
 use Rattle.trips.specs.Merging.{closed_piece, closed_trips, merged_middle, merged_piece, merged_trips, route_of}
-use Rattle.trips.specs.Runs.{Run, Stretch, Follows, IsRunOf, followed_by, run_stops, stretches, trip_excess, trip_stops, whole}
-use Rattle.trips.specs.Standing.{ClosesRun, JoinsRuns, StandsCut, StandsForRoute, StandsForRun, StandsForTrips, StandsUncut}
+use Rattle.trips.specs.Runs.{Run, Stretch, Follows, IsRunOf, followed_by, run_stops, stretches, whole}
+use Rattle.trips.specs.Standing.{ClosesRun, JoinsRuns, StandsCut, StandsForRoute, StandsForTrips}
 use Rattle.trips.proofs.Gates.{excess-run, stops-whole}
 use Rattle.trips.proofs.Joining.{middles-joined, piece-closed, pieces-joined}
 use Rattle.trips.proofs.Places.{first_of}

@@ -1,7 +1,6 @@
 -- Pieces and trips that stand for few modest stretches are within the range.
-use Rattle.std.proofs.Common.{◌≡◌, ℕ, ◌+◌, ◌-◌, ◌*◌, ◌^◌, ◌<◌, ◌≤◌, List, [], ◌∷◌, ◌++◌, length, max, refl, ◌∙◌, ap, sym, subst, arith, sum_by, flat_map, Some}
-use Rattle.std.specs.Prelude.{All, ℤ, pos, ◌+ℤ◌, ◌-ℤ◌, ◌≤ℤ◌}
-use Rattle.std.specs.Int.{int_max}
+use Rattle.std.proofs.Common.{◌≡◌, ℕ, ◌+◌, ◌-◌, ◌*◌, ◌≤◌, List, [], ◌∷◌, ◌++◌, length, refl, arith, sum_by, flat_map, Some}
+use Rattle.std.specs.Prelude.{All, ℤ, pos, ◌≤ℤ◌}
 use Rattle.std.proofs.lemmas.Int.{ints, clamps}
 use Rattle.std.proofs.lemmas.List.Elements.{All-head, All-tail}
 use Rattle.std.proofs.lemmas.List.Sums.{sum_by-cons}
@@ -13,9 +12,9 @@ use Rattle.problem_data.specs.Valid.{IsValid, IsValidType}
 use Rattle.routing_model.specs.Clock.{Stop, joint, last_place}
 use Rattle.routing_model.specs.Load.{largest_load, trip_load}
 use Rattle.segments.specs.declared.loads.LoadSegment.{LoadSegment}
-use Rattle.segments.specs.Duration.{IsWithinDuration, Stands, merged_duration, released_from}
-use Rattle.segments.specs.Load.{IsWithinLoad, StandsForLoad, merged_load}
-use Rattle.segments.specs.Totals.{IsJoint, IsTotal, largest_total, longest_joint}
+use Rattle.segments.specs.Duration.{IsWithinDuration}
+use Rattle.segments.specs.Load.{IsWithinLoad, StandsForLoad}
+use Rattle.segments.specs.Totals.{IsJoint, largest_total}
 use Rattle.segments.proofs.Standing.{merged-sound, released-sound}
 use Rattle.segments.proofs.TripLoads.{merged-sound_load}
 use Rattle.trips.specs.declared.pieces.Piece.{Piece}
@@ -24,7 +23,7 @@ use Rattle.trips.specs.Conditions.{CanClosePiece, CanMergeMiddles, CanMergePiece
 use Rattle.trips.specs.Merging.{closed_piece, merged_middle, merged_piece}
 use Rattle.trips.specs.Runs.{Stretch, trip_excess, trip_stops}
 use Rattle.trips.specs.Standing.{StandsForStretch, StandsForTrips}
-use Rattle.trips.proofs.Drives.{IsTame, drive-within, many}
+use Rattle.trips.proofs.Drives.{drive-within, many}
 use Rattle.trips.proofs.Joining.{middles-joined, piece-closed, pieces-joined}
 use Rattle.trips.proofs.Places.{first_of}
 use Rattle.trips.proofs.Quantities.{duration-short, valid_client_at}

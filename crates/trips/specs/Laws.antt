@@ -1,5 +1,5 @@
 -- Bounds: segments that stand for runs of a valid problem can be merged and closed.
-use Rattle.std.specs.Prelude.{◌≡◌, ℕ, ◌≤◌, ℤ, pos, List, length}
+use Rattle.std.specs.Prelude.{ℕ, ◌≤◌, pos, List, length}
 use Rattle.problem_data.specs.declared.problem.Problem.{Problem}
 use Rattle.problem_data.specs.declared.problem.VehicleType.{VehicleType}
 use Rattle.problem_data.specs.declared.visit.Visit.{Visit}

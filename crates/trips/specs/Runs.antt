@@ -1,5 +1,5 @@
 -- Runs of a vehicle's stops, and the stretches into which reloads cut them.
-use Rattle.std.specs.Prelude.{◌≡◌, ℕ, max, Bool, true, false, List, [], ◌∷◌, ◌++◌, length, flat_map, sum_by, All, IsTrue, ◌-◌, if◌then◌else◌}
+use Rattle.std.specs.Prelude.{◌≡◌, ℕ, max, Bool, true, false, List, [], ◌∷◌, ◌++◌, All, IsTrue, ◌-◌}
 use Rattle.problem_data.specs.declared.problem.Problem.{Problem}
 use Rattle.problem_data.specs.declared.problem.VehicleType.{VehicleType}
 use Rattle.problem_data.specs.declared.visit.Visit.{Visit}
@@ -9,7 +9,7 @@ use Rattle.problem_data.specs.Valid.{IsValid, IsValidType}
 use Rattle.routing_model.specs.Clock.{Stop, released_at}
 use Rattle.routing_model.specs.Lawful.{names_place}
 use Rattle.routing_model.specs.Load.{first_trip, trip_load}
-use Rattle.routing_model.specs.Stops.{met, stop_at, visit_stops, trip_release}
+use Rattle.routing_model.specs.Stops.{met, stop_at, visit_stops}
 
 -- some visits of a vehicle in order, maybe behind its start, and maybe before its end
 pub record Run : Type 0 where

@@ -7,25 +7,13 @@ use Rattle.problem_data.specs.declared.problem.Client.{Client}
 use Rattle.problem_data.specs.declared.problem.Depot.{Depot}
 use Rattle.problem_data.specs.declared.problem.VehicleType.{VehicleType}
 use Rattle.vrp_num.specs.declared.rounding.Rounding.TheVariants.{Round}
-use Rattle.vrp_num.specs.DecimalText.{parts_of, is_number}
-use Rattle.vrp_num.specs.DecimalText as decimal_text
-use Rattle.vrp_num.specs.Rounding.{distance}
 use Rattle.vrplib_read.specs.declared.refusal.Refusal.{Refusal}
 use Rattle.vrplib_read.specs.declared.rule.Rule.{Rule}
 use Rattle.vrplib_read.specs.declared.rule.Rule.TheVariants.{NotText, NoKeyword, Repeated, Missing, BadNumber, RowCount, BadNode, Unsupported, Limit, BadDepot, EmptyWindow, BadGroup}
 use Rattle.vrplib_read.specs.declared.rule.Key.TheVariants.{Dimension}
-use Rattle.vrplib_read.specs.Keywords.{keyword_of, is_of_vehicles}
-use Rattle.vrplib_read.specs.Sections.{section_of, is_section_key}
-use Rattle.vrplib_read.specs.LineKinds.{key_of, value_of, word_line_of, trimmed_line_of}
-use Rattle.vrplib_read.specs.Numbers.{field_value}
-use Rattle.vrplib_read.specs.Rows.{rows_of}
-use Rattle.vrplib_read.specs.RowFaults.{fault_of_row}
-use Rattle.vrplib_read.specs.Faults.{fault_of}
-use Rattle.vrplib_read.specs.WholeText.{whole_fault}
-use Rattle.vrplib_read.specs.Legs.{base_leg}
-use Rattle.vrplib_read.specs.Meaning.{problem_of}
-use Rattle.vrplib_read.specs.Reading.{first_fault, read}
-use Rattle.vrplib_read.proofs.Texts.{three, tiny}
+use Rattle.vrplib_read.specs.Reading.{read}
+use Rattle.vrplib_read.proofs.OnLiterals.{reader_on_literals}
+use Rattle.vrplib_read.proofs.Texts.{cut_with, three, three_with, tiny, tiny_with}
 
 -- a refusal at a line, by a rule
 abbrev refused : ℕ → Rule → Result Problem Refusal
@@ -66,7 +54,7 @@ three_is_read : read Round three ≡ Ok (record {
   profiles = record { distances = record { size = 4; entries = 0 ∷ 5 ∷ 10 ∷ 2 ∷ 5 ∷ 0 ∷ 5 ∷ 4 ∷ 10 ∷ 5 ∷ 0 ∷ 8 ∷ 2 ∷ 4 ∷ 8 ∷ 0 ∷ [] }; durations = record { size = 4; entries = 0 ∷ 5 ∷ 10 ∷ 2 ∷ 5 ∷ 0 ∷ 5 ∷ 4 ∷ 10 ∷ 5 ∷ 0 ∷ 8 ∷ 2 ∷ 4 ∷ 8 ∷ 0 ∷ [] } } ∷ [];
   groups = [];
 })
-unfolding key_of value_of word_line_of trimmed_line_of is_section_key keyword_of is_of_vehicles section_of field_value rows_of fault_of_row fault_of first_fault decimal_text.read parts_of is_number whole_fault base_leg problem_of distance read
+unfolding reader_on_literals
 three_is_read = refl
 
 tiny_is_read : read Round tiny ≡ Ok (record {
@@ -77,35 +65,35 @@ tiny_is_read : read Round tiny ≡ Ok (record {
   profiles = record { distances = record { size = 3; entries = 0 ∷ 5 ∷ 5 ∷ 5 ∷ 0 ∷ 3 ∷ 5 ∷ 3 ∷ 0 ∷ [] }; durations = record { size = 3; entries = 0 ∷ 5 ∷ 5 ∷ 5 ∷ 0 ∷ 3 ∷ 5 ∷ 3 ∷ 0 ∷ [] } } ∷ [];
   groups = [];
 })
-unfolding key_of value_of word_line_of trimmed_line_of is_section_key keyword_of is_of_vehicles section_of field_value rows_of fault_of_row fault_of first_fault decimal_text.read parts_of is_number whole_fault base_leg problem_of distance read
+unfolding reader_on_literals
 tiny_is_read = refl
 
 repeated_keyword : read Round (line (codes "DIMENSION : 3")
     ++ line (codes "DIMENSION : 3")) ≡ refused 2 Repeated
-unfolding key_of value_of word_line_of trimmed_line_of is_section_key keyword_of is_of_vehicles section_of field_value rows_of fault_of_row fault_of first_fault decimal_text.read parts_of is_number whole_fault base_leg problem_of distance read
+unfolding reader_on_literals
 repeated_keyword = refl
 
 stray_row : read Round (line (codes "7")) ≡ refused 1 NoKeyword
-unfolding key_of value_of word_line_of trimmed_line_of is_section_key keyword_of is_of_vehicles section_of field_value rows_of fault_of_row fault_of first_fault decimal_text.read parts_of is_number whole_fault base_leg problem_of distance read
+unfolding reader_on_literals
 stray_row = refl
 
 distance_keyword : read Round (line (codes "DISTANCE : 100")) ≡ refused 1 Unsupported
-unfolding key_of value_of word_line_of trimmed_line_of is_section_key keyword_of is_of_vehicles section_of field_value rows_of fault_of_row fault_of first_fault decimal_text.read parts_of is_number whole_fault base_leg problem_of distance read
+unfolding reader_on_literals
 distance_keyword = refl
 
 vehicles_section : read Round (line (codes "VEHICLES_DEPOT_SECTION")) ≡ refused 1 Unsupported
-unfolding key_of value_of word_line_of trimmed_line_of is_section_key keyword_of is_of_vehicles section_of field_value rows_of fault_of_row fault_of first_fault decimal_text.read parts_of is_number whole_fault base_leg problem_of distance read
+unfolding reader_on_literals
 vehicles_section = refl
 
 section_first : read Round (line (codes "DEMAND_SECTION")) ≡ refused 1 (Missing Dimension)
-unfolding key_of value_of word_line_of trimmed_line_of is_section_key keyword_of is_of_vehicles section_of field_value rows_of fault_of_row fault_of first_fault decimal_text.read parts_of is_number whole_fault base_leg problem_of distance read
+unfolding reader_on_literals
 section_first = refl
 
 empty_window : read Round (line (codes "DIMENSION : 2")
     ++ line (codes "TIME_WINDOW_SECTION")
     ++ line (codes "1 0 10")
     ++ line (codes "2 9 8")) ≡ refused 4 EmptyWindow
-unfolding key_of value_of word_line_of trimmed_line_of is_section_key keyword_of is_of_vehicles section_of field_value rows_of fault_of_row fault_of first_fault decimal_text.read parts_of is_number whole_fault base_leg problem_of distance read
+unfolding reader_on_literals
 empty_window = refl
 
 lower_row : read Round (line (codes "DIMENSION : 3")
@@ -121,60 +109,60 @@ lower_row : read Round (line (codes "DIMENSION : 3")
       profiles = record { distances = record { size = 3; entries = 0 ∷ 5 ∷ 6 ∷ 5 ∷ 0 ∷ 7 ∷ 6 ∷ 7 ∷ 0 ∷ [] }; durations = record { size = 3; entries = 0 ∷ 5 ∷ 6 ∷ 5 ∷ 0 ∷ 7 ∷ 6 ∷ 7 ∷ 0 ∷ [] } } ∷ [];
       groups = [];
     })
-unfolding key_of value_of word_line_of trimmed_line_of is_section_key keyword_of is_of_vehicles section_of field_value rows_of fault_of_row fault_of first_fault decimal_text.read parts_of is_number whole_fault base_leg problem_of distance read
+unfolding reader_on_literals
 lower_row = refl
 
 zero_byte : read Round (line (codes "NAME : a")
     ++ line (0 ∷ [])) ≡ refused 2 NotText
-unfolding key_of value_of word_line_of trimmed_line_of is_section_key keyword_of is_of_vehicles section_of field_value rows_of fault_of_row fault_of first_fault decimal_text.read parts_of is_number whole_fault base_leg problem_of distance read
+unfolding reader_on_literals
 zero_byte = refl
 
 two_values : read Round (line (codes "DIMENSION : 2 3")) ≡ refused 1 BadNumber
-unfolding key_of value_of word_line_of trimmed_line_of is_section_key keyword_of is_of_vehicles section_of field_value rows_of fault_of_row fault_of first_fault decimal_text.read parts_of is_number whole_fault base_leg problem_of distance read
+unfolding reader_on_literals
 two_values = refl
 
 small_dimension : read Round (line (codes "DIMENSION : 1")) ≡ refused 1 Limit
-unfolding key_of value_of word_line_of trimmed_line_of is_section_key keyword_of is_of_vehicles section_of field_value rows_of fault_of_row fault_of first_fault decimal_text.read parts_of is_number whole_fault base_leg problem_of distance read
+unfolding reader_on_literals
 small_dimension = refl
 
 huge_dimension : read Round (line (codes "DIMENSION : 1e1000")) ≡ refused 1 Limit
-unfolding key_of value_of word_line_of trimmed_line_of is_section_key keyword_of is_of_vehicles section_of field_value rows_of fault_of_row fault_of first_fault decimal_text.read parts_of is_number whole_fault base_leg problem_of distance read
+unfolding reader_on_literals
 huge_dimension = refl
 
 tiny_dimension : read Round (line (codes "DIMENSION : 1e-1000")) ≡ refused 1 BadNumber
-unfolding key_of value_of word_line_of trimmed_line_of is_section_key keyword_of is_of_vehicles section_of field_value rows_of fault_of_row fault_of first_fault decimal_text.read parts_of is_number whole_fault base_leg problem_of distance read
+unfolding reader_on_literals
 tiny_dimension = refl
 
 behind_minus_one : read Round (line (codes "DIMENSION : 2")
     ++ line (codes "DEPOT_SECTION")
     ++ line (codes "-1 1")) ≡ refused 3 RowCount
-unfolding key_of value_of word_line_of trimmed_line_of is_section_key keyword_of is_of_vehicles section_of field_value rows_of fault_of_row fault_of first_fault decimal_text.read parts_of is_number whole_fault base_leg problem_of distance read
+unfolding reader_on_literals
 behind_minus_one = refl
 
 short_row : read Round (line (codes "DIMENSION : 2")
     ++ line (codes "NODE_COORD_SECTION")
     ++ line (codes "1 0")) ≡ refused 3 RowCount
-unfolding key_of value_of word_line_of trimmed_line_of is_section_key keyword_of is_of_vehicles section_of field_value rows_of fault_of_row fault_of first_fault decimal_text.read parts_of is_number whole_fault base_leg problem_of distance read
+unfolding reader_on_literals
 short_row = refl
 
 short_section : read Round (line (codes "DIMENSION : 2")
     ++ line (codes "NODE_COORD_SECTION")
     ++ line (codes "1 0 0")
     ++ line (codes "EOF")) ≡ refused 4 RowCount
-unfolding key_of value_of word_line_of trimmed_line_of is_section_key keyword_of is_of_vehicles section_of field_value rows_of fault_of_row fault_of first_fault decimal_text.read parts_of is_number whole_fault base_leg problem_of distance read
+unfolding reader_on_literals
 short_section = refl
 
 node_outside : read Round (line (codes "DIMENSION : 2")
     ++ line (codes "DEMAND_SECTION")
     ++ line (codes "3 1")) ≡ refused 3 BadNode
-unfolding key_of value_of word_line_of trimmed_line_of is_section_key keyword_of is_of_vehicles section_of field_value rows_of fault_of_row fault_of first_fault decimal_text.read parts_of is_number whole_fault base_leg problem_of distance read
+unfolding reader_on_literals
 node_outside = refl
 
 negative_prize : read Round (line (codes "DIMENSION : 2")
     ++ line (codes "PRIZE_SECTION")
     ++ line (codes "1 0")
     ++ line (codes "2 -1")) ≡ refused 4 BadNumber
-unfolding key_of value_of word_line_of trimmed_line_of is_section_key keyword_of is_of_vehicles section_of field_value rows_of fault_of_row fault_of first_fault decimal_text.read parts_of is_number whole_fault base_leg problem_of distance read
+unfolding reader_on_literals
 negative_prize = refl
 
 weight_too_many : read Round (line (codes "DIMENSION : 2")
@@ -183,7 +171,7 @@ weight_too_many : read Round (line (codes "DIMENSION : 2")
     ++ line (codes "EDGE_WEIGHT_SECTION")
     ++ line (codes "0 1 1")
     ++ line (codes "0 5")) ≡ refused 6 RowCount
-unfolding key_of value_of word_line_of trimmed_line_of is_section_key keyword_of is_of_vehicles section_of field_value rows_of fault_of_row fault_of first_fault decimal_text.read parts_of is_number whole_fault base_leg problem_of distance read
+unfolding reader_on_literals
 weight_too_many = refl
 
 weight_too_few : read Round (line (codes "DIMENSION : 2")
@@ -191,102 +179,37 @@ weight_too_few : read Round (line (codes "DIMENSION : 2")
     ++ line (codes "EDGE_WEIGHT_FORMAT : FULL_MATRIX")
     ++ line (codes "EDGE_WEIGHT_SECTION")
     ++ line (codes "0 1 1")) ≡ refused 6 RowCount
-unfolding key_of value_of word_line_of trimmed_line_of is_section_key keyword_of is_of_vehicles section_of field_value rows_of fault_of_row fault_of first_fault decimal_text.read parts_of is_number whole_fault base_leg problem_of distance read
+unfolding reader_on_literals
 weight_too_few = refl
 
-depot_demand : read Round (line (codes "NAME : three")
-    ++ line (codes "DIMENSION : 4")
-    ++ line (codes "EDGE_WEIGHT_TYPE : EUC_2D")
-    ++ line (codes "CAPACITY : 10")
-    ++ line (codes "NODE_COORD_SECTION")
-    ++ line (codes "1 0 0")
-    ++ line (codes "2 3 4")
-    ++ line (codes "3 6 8")
-    ++ line (codes "4 0 2")
-    ++ line (codes "DEMAND_SECTION")
-    ++ line (codes "1 4")
-    ++ line (codes "2 1")
-    ++ line (codes "3 1")
-    ++ line (codes "4 1")
-    ++ line (codes "DEPOT_SECTION")
-    ++ line (codes "1")
-    ++ line (codes "-1")
-    ++ line (codes "EOF")) ≡ refused 0 BadDepot
-unfolding key_of value_of word_line_of trimmed_line_of is_section_key keyword_of is_of_vehicles section_of field_value rows_of fault_of_row fault_of first_fault decimal_text.read parts_of is_number whole_fault base_leg problem_of distance read
+depot_demand : read Round (three_with (codes "1 4")) ≡ refused 0 BadDepot
+unfolding reader_on_literals
 depot_demand = refl
 
-depot_in_group : read Round (line (codes "NAME : \ttiny")
-    ++ line (codes "COMMENT : \t\"by: nobody, see: none\"")
-    ++ line (codes "TYPE : \tCVRP")
-    ++ line (codes "DIMENSION : \t3")
-    ++ line (codes "EDGE_WEIGHT_TYPE : \tEUC_2D")
-    ++ line (codes "CAPACITY : \t10")
-    ++ line (codes "NODE_COORD_SECTION")
-    ++ line (codes "1\t0\t0")
-    ++ line (codes "2\t3\t4")
-    ++ line (codes "3\t0\t5")
-    ++ line (codes "DEMAND_SECTION")
-    ++ line (codes "1\t0")
-    ++ line (codes "2\t7")
-    ++ line (codes "3\t8")
-    ++ line (codes "DEPOT_SECTION")
-    ++ line (codes "\t1")
-    ++ line (codes "\t-1")
-    ++ line (codes "MUTUALLY_EXCLUSIVE_GROUP_SECTION")
-    ++ line (codes "1 1")
-    ++ line (codes "EOF")) ≡ refused 0 BadGroup
-unfolding key_of value_of word_line_of trimmed_line_of is_section_key keyword_of is_of_vehicles section_of field_value rows_of fault_of_row fault_of first_fault decimal_text.read parts_of is_number whole_fault base_leg problem_of distance read
+depot_in_group : read Round (tiny_with (codes "DIMENSION : \t3") (line (codes "MUTUALLY_EXCLUSIVE_GROUP_SECTION") ++ line (codes "1 1"))) ≡ refused 0 BadGroup
+unfolding reader_on_literals
 depot_in_group = refl
 
 only_end : read Round (line (codes "EOF")) ≡ refused 0 (Missing Dimension)
-unfolding key_of value_of word_line_of trimmed_line_of is_section_key keyword_of is_of_vehicles section_of field_value rows_of fault_of_row fault_of first_fault decimal_text.read parts_of is_number whole_fault base_leg problem_of distance read
+unfolding reader_on_literals
 only_end = refl
 
-many_nodes : read Round (line (codes "NAME : \ttiny")
-    ++ line (codes "COMMENT : \t\"by: nobody, see: none\"")
-    ++ line (codes "TYPE : \tCVRP")
-    ++ line (codes "DIMENSION : 2049")
-    ++ line (codes "EDGE_WEIGHT_TYPE : \tEUC_2D")
-    ++ line (codes "CAPACITY : \t10")
-    ++ line (codes "NODE_COORD_SECTION")
-    ++ line (codes "1\t0\t0")
-    ++ line (codes "2\t3\t4")
-    ++ line (codes "3\t0\t5")
-    ++ line (codes "DEMAND_SECTION")
-    ++ line (codes "1\t0")
-    ++ line (codes "2\t7")
-    ++ line (codes "3\t8")
-    ++ line (codes "DEPOT_SECTION")
-    ++ line (codes "\t1")
-    ++ line (codes "\t-1")
-    ++ line (codes "EOF")) ≡ refused 4 Limit
-unfolding key_of value_of word_line_of trimmed_line_of is_section_key keyword_of is_of_vehicles section_of field_value rows_of fault_of_row fault_of first_fault decimal_text.read parts_of is_number whole_fault base_leg problem_of distance read
+many_nodes : read Round (tiny_with (codes "DIMENSION : 2049") []) ≡ refused 4 Limit
+unfolding reader_on_literals
 many_nodes = refl
 
-cut : read Round (line (codes "NAME : \ttiny")
-    ++ line (codes "COMMENT : \t\"by: nobody, see: none\"")
-    ++ line (codes "TYPE : \tCVRP")
-    ++ line (codes "DIMENSION : \t3")
-    ++ line (codes "EDGE_WEIGHT_TYPE : \tEUC_2D")
-    ++ line (codes "CAPACITY : \t10")
-    ++ line (codes "NODE_COORD_SECTION")
-    ++ line (codes "1\t0\t0")
-    ++ line (codes "2\t3\t4")
-    ++ line (codes "3\t0\t5")
-    ++ line (codes "DEMAND_SECTION")
-    ++ line (codes "1\t0")
-    ++ line (codes "2\t7")) ≡ refused 14 RowCount
-unfolding key_of value_of word_line_of trimmed_line_of is_section_key keyword_of is_of_vehicles section_of field_value rows_of fault_of_row fault_of first_fault decimal_text.read parts_of is_number whole_fault base_leg problem_of distance read
+cut : read Round (cut_with (codes "DIMENSION : \t3")) ≡ refused 14 RowCount
+unfolding reader_on_literals
 cut = refl
 
 nothing : read Round [] ≡ refused 0 (Missing Dimension)
-unfolding key_of value_of word_line_of trimmed_line_of is_section_key keyword_of is_of_vehicles section_of field_value rows_of fault_of_row fault_of first_fault decimal_text.read parts_of is_number whole_fault base_leg problem_of distance read
+unfolding reader_on_literals
 nothing = refl
 
 shortest_prefix : read Round (take 181 tiny) ≡ read Round tiny
-unfolding key_of value_of word_line_of trimmed_line_of is_section_key keyword_of is_of_vehicles section_of field_value rows_of fault_of_row fault_of first_fault decimal_text.read parts_of is_number whole_fault base_leg problem_of distance read
+unfolding reader_on_literals
 shortest_prefix = refl
 
 one_byte_less : read Round (take 180 tiny) ≡ refused 14 RowCount
-unfolding key_of value_of word_line_of trimmed_line_of is_section_key keyword_of is_of_vehicles section_of field_value rows_of fault_of_row fault_of first_fault decimal_text.read parts_of is_number whole_fault base_leg problem_of distance read
+unfolding reader_on_literals
 one_byte_less = refl

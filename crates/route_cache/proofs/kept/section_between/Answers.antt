@@ -1,4 +1,4 @@
-use Rattle.std.proofs.Common.{◌≡◌, ◌≤◌, ◌<◌, ◌+◌, ℕ, length, get_or, true, false, rules, arith, subst, sym}
+use Rattle.std.proofs.Common.{◌≡◌, ◌<◌, ℕ, length, get_or, false, rules, arith, subst, sym}
 use Rattle.problem_data.specs.declared.visit.Visit.TheVariants.{Client}
 use Rattle.trips.specs.Runs.{Run}
 use Rattle.route_cache.specs.Sections.{HoldsRun, Leaves, place_of_visit}

@@ -1,4 +1,4 @@
-use Rattle.std.proofs.Common.{◌≡◌, ◌≤◌, ◌<◌, ◌+◌, ◌-◌, length, ℕ, false}
+use Rattle.std.proofs.Common.{◌<◌, ◌+◌, ◌-◌, false}
 use Rattle.problem_data.specs.Places.{place_count}
 use Rattle.problem_data.specs.Reads.{RoseAtMost}
 use Rattle.route_cache.specs.Sections.{HoldsRun, Leaves}

@@ -1,4 +1,4 @@
-use Rattle.std.proofs.Common.{◌≡◌, ◌≤◌, ◌<◌, ◌+◌, ◌-◌, ℕ, length, get_or, rules, arith, subst, sym, ap, ◌∙◌, ◌++◌, ◌∷◌, []}
+use Rattle.std.proofs.Common.{◌≡◌, ◌<◌, ◌+◌, ◌-◌, ℕ, length, get_or, rules, arith, subst, ◌++◌, ◌∷◌, []}
 use Rattle.std.proofs.lemmas.Grind.{common_steps}
 use Rattle.problem_data.specs.declared.visit.Visit.TheVariants.{Client}
 use Rattle.route_cache.specs.declared.sections.Section.{Section}

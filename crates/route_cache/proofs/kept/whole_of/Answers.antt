@@ -1,7 +1,6 @@
-use Rattle.std.proofs.Common.{◌≡◌, ◌<◌, ℕ, arith, w64, to_z, of_z, subst, sym}
-use Rattle.std.specs.Prelude.{ℤ, pos}
+use Rattle.std.proofs.Common.{◌≡◌, arith, w64, to_z, of_z, subst}
+use Rattle.std.specs.Prelude.{ℤ}
 use Rattle.std.proofs.lemmas.Int.{ints}
-use Rattle.problem_data.specs.Places.{place_count}
 use Rattle.route_cache.specs.Caching.{IsWhole}
 use Rattle.route_cache.proofs.Steps.{can-close, fit-whole, holds-whole, is-whole, last-there}
 use Rattle.route_cache.proofs.kept.whole_of.Goals as goal

@@ -1,9 +1,9 @@
-use Rattle.std.proofs.Common.{refl, true, false, List, [], ◌∷◌, lit≤}
+use Rattle.std.proofs.Common.{refl, true, false, [], ◌∷◌, lit≤}
 use Rattle.problem_data.specs.declared.visit.Visit.TheVariants.{Client, Reload}
 use Rattle.trips.specs.Runs.{Run, whole}
 use Rattle.trips.specs.Standing.{StandsForRun}
 use Rattle.trips.proofs.InRange.{whole-can}
-use Rattle.trips.proofs.TwoTrips.{is_run, lone, merges, named-1, named-2, named-3, one_vehicle, run, two_trips, two_trips-valid, vehicle_valid}
+use Rattle.trips.proofs.TwoTrips.{is_run, lone, merges, named-1, named-2, named-3, one_vehicle, run, two_trips}
 use Rattle.trips.proofs.tests.two_trips_are_closed.Goals as goal
 
 abbrev end : Run

@@ -1,9 +1,8 @@
-use Rattle.std.proofs.Common.{◌≡◌, List, ap, subst, sym}
+use Rattle.std.proofs.Common.{◌≡◌, ap, subst, sym}
 use Rattle.problem_data.specs.declared.problem.Problem.{Problem}
 use Rattle.problem_data.specs.declared.problem.VehicleType.{VehicleType}
-use Rattle.problem_data.specs.declared.visit.Visit.{Visit}
-use Rattle.route_cache.specs.Caching.{IsKept, IsRoute}
-use Rattle.route_cache.specs.Routes.{IsListed, RouteState, type_of_vehicle}
+use Rattle.route_cache.specs.Caching.{IsKept}
+use Rattle.route_cache.specs.Routes.{IsListed, RouteState}
 use Rattle.route_cache.proofs.route.Route.set_visits.Goals as goal
 
 pub invariant_of-self : goal.invariant_of-self

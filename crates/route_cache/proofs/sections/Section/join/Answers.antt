@@ -1,6 +1,3 @@
-use Rattle.std.proofs.Common.{◌≡◌, ℕ, sym, subst, ap, ◌∙◌}
-use Rattle.problem_data.specs.Places.{leg_distance, leg_duration}
-use Rattle.route_cache.specs.Sections.{CanMergeSections, JoinsSections}
 use Rattle.route_cache.proofs.Joins.{fit-can, joined-at}
 use Rattle.route_cache.proofs.sections.Section.join.Goals as goal
 

@@ -1,7 +1,6 @@
-use Rattle.std.proofs.Common.{◌≡◌, arith, w64, to_z, of_z, pos, ◌≤ℤ◌, FitsSigned}
+use Rattle.std.proofs.Common.{◌≡◌, arith, w64, to_z, of_z, FitsSigned}
 use Rattle.std.specs.Int.{int_max}
 use Rattle.std.proofs.lemmas.Int.{ints, clamps, to_z-of_z}
-use Rattle.segments.specs.Totals.{latest_release}
 use Rattle.trips.proofs.pieces.Piece.merge.Goals as goal
 
 pub returns-clause-value : goal.returns-clause-value

@@ -1,4 +1,4 @@
-use Rattle.std.proofs.Common.{◌≡◌, ℕ, ◌∙◌, ap, sym, subst, refl, w64, FitsSigned}
+use Rattle.std.proofs.Common.{◌≡◌, ℕ, ◌∙◌, ap, sym, subst, w64, FitsSigned}
 use Rattle.std.specs.Prelude.{ℤ}
 use Rattle.std.proofs.lemmas.Int.{to_z-of_z}
 use Rattle.trips.specs.declared.pieces.Piece.{Piece}
@@ -6,7 +6,7 @@ use Rattle.trips.specs.declared.pieces.Middle.{Middle}
 use Rattle.trips.specs.declared.trip_segment.TripSegment.{TripSegment}
 use Rattle.trips.specs.declared.trip_segment.TripSegment.TheVariants.{Open, Split}
 use Rattle.trips.specs.Conditions.{CanClosePiece, CanMerge, CanMergeBetween, CanMergeMiddles}
-use Rattle.trips.specs.Merging.{closed_piece, merged_middle, merged_piece, merged_trips}
+use Rattle.trips.specs.Merging.{closed_piece, merged_middle}
 use Rattle.trips.specs.Standing.{JoinsRuns}
 use Rattle.trips.proofs.WholeRuns.{trips-joined}
 use Rattle.trips.proofs.trip_segment.TripSegment.merge.Goals as goal
