@@ -4,3 +4,4 @@ pub mod Places
 pub mod Reads
 pub mod Tables
 pub mod Valid
+pub mod Visits

@@ -2,17 +2,20 @@
 #![tactic(auto)]
 
 mod legs;
+mod limits;
 mod lists;
 mod memory;
 mod problem;
 mod steps;
 mod tables;
-#[cfg(test)]
-mod tests;
 mod valid_problem;
 mod visit;
 
 pub use legs::leg;
+pub use limits::{
+    LARGEST, LARGEST_LEG, LARGEST_UNIT_COST, MOST_GROUPS, MOST_PLACES, MOST_PROFILES, MOST_RELOADS,
+    MOST_TYPES, MOST_VEHICLES, MOST_VISITS, UNLIMITED, limits_are_defined,
+};
 pub use lists::{
     ClientList, DepotList, GroupList, PlaceList, PlaceTable, ProfileList, RouteList, Text,
     TypeList, VisitList,
@@ -23,4 +26,4 @@ pub use problem::{
 };
 pub use steps::{Reads, Steps};
 pub use valid_problem::ProblemData;
-pub use visit::Visit;
+pub use visit::{Visit, is_used};

@@ -1,3 +1,4 @@
+//! Problems and plans.
 ghost use Rattle.std.specs.Prelude.{◌≡◌, ◌*◌, ◌<◌, length, IfOk};
 
 use crate::lists::{
@@ -55,7 +56,7 @@ pub struct Client {
     pub group: Option<u32>,
 }
 
-/// A kind of vehicle. Distances, durations and costs are whole numbers, in the file's units.
+/// A vehicle type. Distances, durations and costs are whole numbers, in the file's units.
 #[derive(Debug, Drop)]
 pub struct VehicleType {
     /// How many vehicles there are of it.
@@ -86,8 +87,8 @@ pub struct VehicleType {
     pub reload_depots: PlaceList,
 }
 
-/// A square table of legs, row by row: from the row's place to the column's.
-#[derive(Debug, Drop)]
+/// A square table of legs, row by row: from the row's place to the column's. It shows no entry but by `leg`.
+#[derive(Drop)]
 pub struct Matrix {
     size: u32,
     entries: Vec<u32>,
@@ -136,8 +137,8 @@ pub struct Leg {
     pub duration: u32,
 }
 
-/// The legs of a kind of vehicle.
-#[derive(Debug, Drop)]
+/// The legs of a vehicle type.
+#[derive(Drop)]
 pub struct Profile {
     /// The distances, in the file's unit.
     pub distances: Matrix,
@@ -147,7 +148,7 @@ pub struct Profile {
 
 /// A routing problem, with what PyVRP's model has (Wouda, Lan and Kool 2024). Depots are the
 /// places from 0 on, and clients follow.
-#[derive(Debug, Drop)]
+#[derive(Drop)]
 pub struct Problem {
     /// Where each place lies.
     pub places: PlaceTable,

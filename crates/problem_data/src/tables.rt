@@ -24,8 +24,8 @@ pub(crate) fn types_table(alloc: Global, types: &[VehicleType]) -> Result<Vec<u3
     ensures { IfOk result (λ table. table.items ≡ flat_map (λ (e : ℕ × VehicleType). replicate e.1.count e.0) (enumerate_from 0 types.now)) }
 {
     let mut table = Vec::new(alloc);
-    for (number, kind) in types.iter().enumerate() {
-        append_repeated(&mut table, number as u32, kind.count)?;
+    for (number, vehicle_type) in types.iter().enumerate() {
+        append_repeated(&mut table, number as u32, vehicle_type.count)?;
     }
     Ok(table)
 }
