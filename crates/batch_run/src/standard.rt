@@ -1,7 +1,7 @@
 //! Standard output and standard error.
 ghost use Rattle.std.specs.Prelude.{◌≡◌, ◌≤◌, take, length, None, IfOk, OnOk, OnErr};
 ghost use Rattle.std.specs.Io.KnownBytes.{Appends};
-ghost use Rattle.batch_run.specs.Outside.{Rose};
+ghost use Rattle.outside_model.specs.Sinks.{Rose};
 
 use crate::sink::{Failed, Sink, raise};
 use std::io::{ErrorKind, Stderr, Stdout, Write};
