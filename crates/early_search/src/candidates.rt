@@ -90,9 +90,9 @@ pub fn client_candidates(
     Ok(moves)
 }
 
-/// The candidates of a pass of the early search, for an order of the clients: each client goes to
-/// each of its 40 neighbours and to an unused vehicle of each type. Refused only where memory runs
-/// out.
+/// The candidates of a pass of the early search, for an order of the clients: each client goes behind each of its neighbours, of
+/// which it has 40 at most, to the front of the list that the neighbour begins, and to an unused vehicle of each type. Refused only
+/// where memory runs out.
 pub fn early_candidates(
     alloc: Global,
     given: &ProblemData,

@@ -209,11 +209,10 @@ fn dealt(alloc: Global, vehicles: u32, clients: &[u32]) -> Result<Solution, NoMe
     })
 }
 
-/// The random plan that the generator's next words give: a random order of the clients is walked,
-/// required clients and a member of each required group are chosen, others by a draw, and the
-/// chosen are dealt out to the vehicles in equal runs. It is lawful, and its lists have clients
-/// alone. Refused only where memory runs out; some
-/// words may then have been drawn.
+/// The random plan that the generator's next words give: a random order of the clients is walked, required clients and a member of
+/// each required group are chosen, others by a draw, and the chosen are dealt out in order, to each vehicle their number divided by
+/// that of the vehicles and rounded up, until none is left. It is lawful, and its lists have clients alone. Refused only where memory
+/// runs out; some words may then have been drawn.
 pub fn random_solution(
     alloc: Global,
     given: &ProblemData,

@@ -1,20 +1,9 @@
-//! The routing solver's command: reads an instance, searches routes, prints them and a table, and answers a status.
+//! The program: makes the real files and streams, and calls the solver's command.
 #![tactic(auto)]
 
-mod answers;
-mod outcome;
-#[cfg(test)]
-mod plan_tests;
-mod report;
-mod run;
-mod table;
-#[cfg(test)]
-mod tests;
-mod words;
-
-use crate::run::{NO_MEMORY, run_command};
 use batch_run::{Folder, StandardError, StandardOutput};
 use problem_data::NoMemory;
+use pyvrp::{NO_MEMORY, run_command};
 use std::env;
 use std::io::ErrorKind;
 use std::process::ExitCode;

@@ -1,11 +1,12 @@
+//! Tests of the text of a plan.
 ghost use Rattle.std.specs.Prelude.{◌≡◌, IfOk, length};
 ghost use Rattle.problem_data.specs.Places.{vehicle_count};
 
-use crate::write_solution;
 use problem_data::{
     ClientList, DepotList, GroupList, NoMemory, PlaceList, PlaceTable, Problem, ProfileList,
     RouteList, Solution, TypeList, VehicleType, Visit, VisitList, Window,
 };
+use solution_write::write_solution;
 use std::alloc::Global;
 
 /// A type of this many vehicles, with any limits.

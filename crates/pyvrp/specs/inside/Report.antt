@@ -9,7 +9,7 @@ use Rattle.vrplib_read.specs.declared.refusal.ReadFault.TheVariants as fault
 use Rattle.routing_model.specs.Routes.{Routes}
 use Rattle.vrp_texts.specs.Printed.{solution_text}
 use Rattle.command_model.specs.Outcomes as model
-use Rattle.command_model.specs.Outcomes.{text_of_best}
+use Rattle.command_model.specs.Outcomes.{program, text_of_best}
 use Rattle.command_model.specs.Command.{effects_of}
 use Rattle.vrp_texts.specs.FaultLines.{long_line, refused_line, unread_line}
 use Rattle.vrp_texts.specs.Tables.{found_row, none_row, refused_row}
@@ -77,9 +77,9 @@ count_shown _ = 0
 
 -- the line of the fault
 abbrev pub fault_shown : List ℕ → Outcome → List ℕ
-fault_shown name Unreadable = unread_line name
-fault_shown name Oversized = long_line name
-fault_shown name (Refused refusal) = refused_line name refusal
+fault_shown name Unreadable = unread_line program name
+fault_shown name Oversized = long_line program name
+fault_shown name (Refused refusal) = refused_line program name refusal
 fault_shown name (Solved answer) = []
 
 -- the status

@@ -1,11 +1,7 @@
 //! Tests of the files and sinks.
-use crate::files::{Files, LoadFault, StoreFault};
-use crate::folder::Folder;
-use crate::memory_files::MemoryFiles;
-use crate::memory_sink::MemorySink;
-use crate::nowhere::Nowhere;
-use crate::plain_files::PlainFiles;
-use crate::sink::{Failed, Sink};
+use batch_run::{
+    Failed, Files, Folder, LoadFault, MemoryFiles, MemorySink, Nowhere, PlainFiles, Sink, StoreFault,
+};
 use std::test::Fail;
 
 /// Whether a name holds these bytes.
