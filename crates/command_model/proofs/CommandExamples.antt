@@ -1,46 +1,24 @@
 -- Examples of what the command prints and answers, for outcomes that are written out, closed by computation.
-use Rattle.std.proofs.Common.{◌≡◌, ℕ, List, [], ◌∷◌, ◌++◌, ◌^◌, refl, codes, Some, None}
+use Rattle.std.proofs.Common.{◌≡◌, ℕ, [], ◌∷◌, ◌++◌, refl, codes, Some, None}
 use Rattle.std.specs.Fmt.{char_count, digits}
 use Rattle.list_words.specs.Texts.{line}
 use Rattle.outside_model.specs.Files.{failed, too_long}
 use Rattle.problem_data.specs.declared.visit.Visit.TheVariants.{Client}
-use Rattle.problem_data.specs.declared.problem.Problem.{Problem}
-use Rattle.problem_data.specs.declared.problem.VehicleType.{VehicleType}
 use Rattle.vrplib_read.specs.declared.rule.Rule.TheVariants.{Missing, RowCount}
 use Rattle.vrplib_read.specs.declared.rule.Key.TheVariants.{Dimension}
 use Rattle.routing_model.specs.Routes.{Routes}
+use Rattle.vrp_texts.proofs.ExampleProblems.{of_types, vehicles}
 use Rattle.vrp_texts.specs.Printed.{solution_text}
 use Rattle.command_model.specs.Command.{effects_of, refused_words}
 use Rattle.command_model.specs.Outcomes.{Outcome, Search, unreadable, oversized, refused, solved, outcome_of}
 
--- a problem with one type of this many vehicles, of which nothing else matters here
-abbrev vehicles : ℕ → VehicleType
-vehicles n = record {
-  count = n;
-  capacity = 10;
-  start = 0;
-  end = 0;
-  fixed = 0;
-  unit_distance = 1;
-  unit_duration = 0;
-  shift = record { early = 0; late = 10 ^ 12 };
-  max_duration = 10 ^ 18;
-  max_distance = 10 ^ 18;
-  profile = 0;
-  reloads = 0;
-  reload_depots = [];
-}
-
-abbrev of_vehicles : ℕ → Problem
-of_vehicles n = record { places = []; depots = []; clients = []; types = vehicles n ∷ []; profiles = []; groups = [] }
-
 -- what came of an instance with that many vehicles: this plan was found, at this cost, after so many iterations
 abbrev found : ℕ → Routes → ℕ → ℕ → Outcome
-found n routes cost iterations = solved (of_vehicles n) (record { best = Some (record { routes = routes; cost = cost }); iterations = iterations })
+found n routes cost iterations = solved (of_types (vehicles n ∷ [])) (record { best = Some (record { routes = routes; cost = cost }); iterations = iterations })
 
 -- no feasible plan was found
 abbrev none_found : ℕ → ℕ → Outcome
-none_found n iterations = solved (of_vehicles n) (record { best = None; iterations = iterations })
+none_found n iterations = solved (of_types (vehicles n ∷ [])) (record { best = None; iterations = iterations })
 
 three_random : effects_of ((codes "three", found 3 ((Client 2 ∷ []) ∷ (Client 1 ∷ []) ∷ (Client 3 ∷ []) ∷ []) 34 0) ∷ [])
     ≡ record {
