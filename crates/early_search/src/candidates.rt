@@ -6,9 +6,6 @@ ghost use Rattle.search_model.specs.Candidates.{candidates, neighbour_candidates
 ghost use Rattle.search_model.specs.Neighbours.{near_list};
 ghost use Rattle.search_model.specs.Search.{of_kinds};
 
-#[cfg(test)]
-mod tests;
-
 use crate::near_clients::near_clients;
 use problem_data::{NoMemory, ProblemData, Reads, Steps};
 use search_model::{Candidate, Kind, Target};

@@ -1,12 +1,12 @@
 //! Three clients and vehicles of two types, of which the first costs 20 to use.
-use super::early_search;
-use crate::sample::sample;
+use early_search::early_search;
 use problem_data::Visit;
+use sample_problem::problem_of_three_clients;
 use std::test::Fail;
 
 #[test]
 fn finds_the_random_solution(rt: HostRuntime) -> Result<(), Fail> {
-    let given = sample(rt.alloc())?;
+    let given = problem_of_three_clients(rt.alloc())?;
     let found = early_search(&rt, rt.alloc(), &given, 1, 0)?;
     assert_eq!(rt; found.cost, Some(54));
     assert_eq!(rt; found.iterations, 0);
@@ -21,7 +21,7 @@ fn finds_the_random_solution(rt: HostRuntime) -> Result<(), Fail> {
 
 #[test]
 fn finds_the_descended_solution(rt: HostRuntime) -> Result<(), Fail> {
-    let given = sample(rt.alloc())?;
+    let given = problem_of_three_clients(rt.alloc())?;
     let found = early_search(&rt, rt.alloc(), &given, 1, 1)?;
     assert_eq!(rt; found.cost, Some(20));
     assert_eq!(rt; found.iterations, 1);

@@ -1,10 +1,10 @@
 //! Lists of the clients 1 to 4, of which one is moved.
-use super::{
+use early_search::client_moves::{
     begins_with, client_alone, unused_vehicle, vehicle_of, with_client_before, with_client_behind,
     without_client,
 };
-use crate::sample::sample;
 use problem_data::{NoMemory, Visit, VisitList};
+use sample_problem::problem_of_three_clients;
 use std::alloc::Global;
 
 /// Visits of these clients, in order.
@@ -36,7 +36,7 @@ fn puts_a_client_beside_another(rt: HostRuntime) -> Result<(), NoMemory> {
 #[test]
 fn finds_vehicles(rt: HostRuntime) -> Result<(), NoMemory> {
     let alloc = rt.alloc();
-    let given = sample(alloc)?;
+    let given = problem_of_three_clients(alloc)?;
     let plan = vec![in alloc;
         list_of(alloc, &[3, 1])?,
         list_of(alloc, &[2])?,

@@ -1,8 +1,8 @@
-//! Three clients, at (3, 4), (6, 8) and (0, 2) from the depot, and vehicles of two types.
-use super::client_candidates;
-use crate::near_clients::near_clients;
-use crate::sample::sample;
+//! Neighbour lists and moves of three clients, at (3, 4), (6, 8) and (0, 2) from the depot, with vehicles of two types.
+use early_search::candidates::client_candidates;
+use early_search::near_clients::near_clients;
 use problem_data::{NoMemory, Steps};
+use sample_problem::problem_of_three_clients;
 use search_model::{Candidate, Kind, Target};
 
 fn moved(client: u32, target: Target) -> Candidate {
@@ -15,7 +15,7 @@ fn moved(client: u32, target: Target) -> Candidate {
 
 #[test]
 fn lists_the_neighbours_of_three_clients(rt: HostRuntime) -> Result<(), NoMemory> {
-    let given = sample(rt.alloc())?;
+    let given = problem_of_three_clients(rt.alloc())?;
     let mut reads = Steps::new(&rt);
     let near = near_clients(rt.alloc(), &given, 40, 200, 1000, &mut reads)?;
     assert_eq!(rt; near.len(), 4);
@@ -28,7 +28,7 @@ fn lists_the_neighbours_of_three_clients(rt: HostRuntime) -> Result<(), NoMemory
 
 #[test]
 fn lists_the_moves_of_two_clients(rt: HostRuntime) -> Result<(), NoMemory> {
-    let given = sample(rt.alloc())?;
+    let given = problem_of_three_clients(rt.alloc())?;
     let mut reads = Steps::new(&rt);
     let near = near_clients(rt.alloc(), &given, 1, 200, 1000, &mut reads)?;
     let moves = client_candidates(rt.alloc(), &given, near.as_slice(), [2, 1].as_slice())?;

@@ -1,5 +1,5 @@
 //! A small problem with a worked answer: three required clients at the places 1 to 3, by seed 1.
-use super::{dealt, drawn_keys, places_of_keys};
+use early_search::random_plan::{dealt, drawn_keys, places_of_keys};
 use problem_data::{NoMemory, Visit};
 use vrp_num::Xor128;
 
