@@ -12,3 +12,8 @@ pub mod Sizes
 pub mod Within
 pub mod InRange
 pub mod TwoTrips
+pub mod RunPlaces
+pub mod RunCounts
+pub mod RunJoins
+pub mod RunVisits
+pub mod RunSteps

@@ -2,6 +2,8 @@ pub mod Conditions
 pub mod Joints
 pub mod Laws
 pub mod Merging
+pub mod RunSegments
 pub mod Runs
 pub mod Spans
 pub mod Standing
+pub mod WholeRoutes

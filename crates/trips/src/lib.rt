@@ -8,13 +8,17 @@
 mod joints;
 mod laws;
 mod pieces;
+mod run_segment;
 mod spans;
 #[cfg(test)]
 mod tests;
 mod trip_segment;
+mod whole_route;
 
 pub use joints::{Joint, tidy_joint};
 pub use laws::segments_of_runs_are_in_range;
 pub use pieces::{Middle, Piece};
+pub use run_segment::RunSegment;
 pub use spans::{Trip, trips_of};
 pub use trip_segment::{RouteSegment, TripSegment};
+pub use whole_route::{WholeRoute, ended, whole_of};

@@ -12,7 +12,8 @@ use Rattle.routing_model.specs.Cost.{length_of}
 use Rattle.routing_model.specs.Stops.{stop_at, trip_release, visit_stops}
 use Rattle.trips.specs.Runs.{Run, Follows, client_stop, departure_stop, followed_by, run_stops, start_stop, stops_before, stops_behind}
 use Rattle.trips.proofs.Places.{last_of, last_of-append}
-use Rattle.route_cache.specs.Sections.{Leaves, Reaches, alone, end_alone, place_behind, place_of_visit, start_alone}
+use Rattle.trips.specs.RunSegments.{Leaves, Reaches, alone, end_alone, place_behind, start_alone}
+use Rattle.problem_data.specs.Visits.{place_of}
 
 -- the places of some stops
 abbrev pub places : List Stop → List ℕ
@@ -109,18 +110,18 @@ leaves_by (x ∷ xs) place h leg y ys = ap (λ (from : ℕ). leg from y.place) (
 pub leaves-start : (p : Problem) (t : VehicleType) → Leaves p t start_alone t.start
 leaves-start p t leg y ys = refl
 
-pub leaves-alone : (p : Problem) (t : VehicleType) (visit : Visit) → Leaves p t (alone visit) (place_of_visit visit)
+pub leaves-alone : (p : Problem) (t : VehicleType) (visit : Visit) → Leaves p t (alone visit) (place_of visit)
 leaves-alone p t (Client place) leg y ys = refl
 leaves-alone p t (Reload depot) leg y ys = refl
 
-last_of-alone : (p : Problem) (t : VehicleType) (visit : Visit) (xs : List Stop) → last_of (xs ++ run_stops p t (alone visit)) ≡ Some (place_of_visit visit)
+last_of-alone : (p : Problem) (t : VehicleType) (visit : Visit) (xs : List Stop) → last_of (xs ++ run_stops p t (alone visit)) ≡ Some (place_of visit)
 last_of-alone p t (Client place) xs = last_of-append xs _ []
 last_of-alone p t (Reload depot) xs = last_of-append xs _ _
 
 -- behind a visit more, a run is left from there
-pub leaves-longer : (p : Problem) (t : VehicleType) (x : Run) (visit : Visit) → x.ends ≡ false → Leaves p t (followed_by x (alone visit)) (place_of_visit visit)
+pub leaves-longer : (p : Problem) (t : VehicleType) (x : Run) (visit : Visit) → x.ends ≡ false → Leaves p t (followed_by x (alone visit)) (place_of visit)
 leaves-longer p t x visit goes_on =
-    leaves_by (run_stops p t (followed_by x (alone visit))) (place_of_visit visit)
+    leaves_by (run_stops p t (followed_by x (alone visit))) (place_of visit)
     (last_of-by_places (run_stops p t (followed_by x (alone visit)))
     ∙ ap last_of_places (sym (places-runs p t x (alone visit) (record { goes_on = goes_on; begun = refl })))
     ∙ sym (last_of-by_places (run_stops p t x ++ run_stops p t (alone visit)))
@@ -129,12 +130,12 @@ leaves-longer p t x visit goes_on =
 pub reaches-end : (p : Problem) (t : VehicleType) → Reaches p t end_alone t.end
 reaches-end p t leg x xs = refl
 
-pub reaches-alone : (p : Problem) (t : VehicleType) (visit : Visit) → Reaches p t (alone visit) (place_of_visit visit)
+pub reaches-alone : (p : Problem) (t : VehicleType) (visit : Visit) → Reaches p t (alone visit) (place_of visit)
 reaches-alone p t (Client place) leg x xs = refl
 reaches-alone p t (Reload depot) leg x xs = refl
 
 -- with a visit more before it, a run is reached there
-pub reaches-longer : (p : Problem) (t : VehicleType) (visit : Visit) (y : Run) → Reaches p t (followed_by (alone visit) y) (place_of_visit visit)
+pub reaches-longer : (p : Problem) (t : VehicleType) (visit : Visit) (y : Run) → Reaches p t (followed_by (alone visit) y) (place_of visit)
 reaches-longer p t (Client place) y leg x xs = refl
 reaches-longer p t (Reload depot) y leg x xs = refl
 
@@ -148,11 +149,11 @@ pub leaves-all : (p : Problem) (t : VehicleType) (visits : List Visit) → Leave
 leaves-all p t visits leg y ys = ap (λ (from : ℕ). leg from y.place) (last_place-visits p (start_stop p t) visits)
 
 -- the place of the last visit
-place_behind-last : (place : ℕ) (visits : List Visit) (last : Visit) → place_behind place (visits ++ last ∷ []) ≡ place_of_visit last
+place_behind-last : (place : ℕ) (visits : List Visit) (last : Visit) → place_behind place (visits ++ last ∷ []) ≡ place_of last
 place_behind-last place [] last = refl
-place_behind-last place (visit ∷ visits) last = place_behind-last (place_of_visit visit) visits last
+place_behind-last place (visit ∷ visits) last = place_behind-last (place_of visit) visits last
 
-pub place_behind-read : (place : ℕ) (visits : List Visit) (i : ℕ) (none : Visit) → i + 1 ≡ length visits → place_behind place visits ≡ place_of_visit (get_or visits i none)
+pub place_behind-read : (place : ℕ) (visits : List Visit) (i : ℕ) (none : Visit) → i + 1 ≡ length visits → place_behind place visits ≡ place_of (get_or visits i none)
 place_behind-read place visits i none h =
     let here : i < length visits = omega arith in
     let all : take (i + 1) visits ≡ visits = take_all (i + 1) visits (omega arith) in

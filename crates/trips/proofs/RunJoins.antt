@@ -1,4 +1,4 @@
--- Two sections as one.
+-- Two segments as one.
 use Rattle.std.proofs.Common.{◌≡◌, ℕ, ◌+◌, ◌*◌, ◌≤◌, ◌++◌, refl, ◌∙◌, ap, sym, subst, arith}
 use Rattle.std.specs.Prelude.{ℤ, pos, ◌≤ℤ◌}
 use Rattle.std.proofs.lemmas.Int.{ints}
@@ -18,16 +18,16 @@ use Rattle.trips.specs.Standing.{JoinsRuns}
 use Rattle.trips.proofs.InRange.{runs-can}
 use Rattle.trips.proofs.Quantities.{distance-short}
 use Rattle.trips.proofs.Within.{joint-in_range}
-use Rattle.route_cache.specs.declared.sections.Section.{Section}
-use Rattle.route_cache.specs.Sections.{CanMergeSections, FitTogether, JoinsAt, JoinsSections, prizes_of}
-use Rattle.route_cache.proofs.Counts.{prizes-append, prizes-run}
-use Rattle.route_cache.proofs.Places.{joint-at, length-bound, places-runs, same_length}
+use Rattle.trips.specs.declared.run_segment.RunSegment.{RunSegment}
+use Rattle.trips.specs.RunSegments.{CanMergeRunSegments, FitTogether, JoinsAt, JoinsRunSegments, prizes_of}
+use Rattle.trips.proofs.RunCounts.{prizes-append, prizes-run}
+use Rattle.trips.proofs.RunPlaces.{joint-at, length-bound, places-runs, same_length}
 
--- what the parts of two sections make holds both runs
-pub sections-joined : (left right both : Section) (distance duration capacity : ℕ) → IsSoundTrips both.segment → JoinsRuns left.segment right.segment (pos duration) capacity both.segment →
+-- what the parts of two segments make holds both runs
+pub run_segments-joined : (left right both : RunSegment) (distance duration capacity : ℕ) → IsSoundTrips both.trips → JoinsRuns left.trips right.trips (pos duration) capacity both.trips →
     IsSoundDistance both.distance → JoinsLengths left.distance right.distance (pos distance) both.distance → both.prizes ≡ left.prizes + right.prizes →
-    JoinsSections left right distance duration capacity both
-sections-joined left right both distance duration capacity sound joins sound_distance joins_lengths prizes p t x y same follows in_range is_distance is_duration h k =
+    JoinsRunSegments left right distance duration capacity both
+run_segments-joined left right both distance duration capacity sound joins sound_distance joins_lengths prizes p t x y same follows in_range is_distance is_duration h k =
     let leg = leg_distance p t.profile in
     record {
       sound = sound;
@@ -46,29 +46,29 @@ length-run_in_range p t run h =
     let a = length-bound (leg_distance p t.profile) (run_stops p t run) (λ from to. distance-short p t from to h.is_run.valid h.is_run.allowed) in
     omega (arith, h.few_stops)
 
--- sections that fit together can be merged over the leg between them
-pub fit-can : (p : Problem) (t : VehicleType) (section : Section) (last : ℕ) (next : Section) (first : ℕ) → FitTogether p t section last next first →
-    CanMergeSections section next (leg_distance p t.profile last first) (leg_duration p t.profile last first) t.capacity
-fit-can p t section last next first fit =
+-- segments that fit together can be merged over the leg between them
+pub fit-can : (p : Problem) (t : VehicleType) (segment : RunSegment) (last : ℕ) (next : RunSegment) (first : ℕ) → FitTogether p t segment last next first →
+    CanMergeRunSegments segment next (leg_distance p t.profile last first) (leg_duration p t.profile last first) t.capacity
+fit-can p t segment last next first fit =
     let x = fit.left in
     let y = fit.right in
     let distance = leg_distance p t.profile in
     let duration = leg_duration p t.profile in
-    let both : StandsForLength distance (merged_distance section.distance next.distance (pos (joint distance (run_stops p t x) (run_stops p t y)))) (run_stops p t x ++ run_stops p t y) =
-    merged-joins_lengths section.distance next.distance (pos (joint distance (run_stops p t x) (run_stops p t y))) _ refl
+    let both : StandsForLength distance (merged_distance segment.distance next.distance (pos (joint distance (run_stops p t x) (run_stops p t y)))) (run_stops p t x ++ run_stops p t y) =
+    merged-joins_lengths segment.distance next.distance (pos (joint distance (run_stops p t x) (run_stops p t y))) _ refl
     distance (run_stops p t x) (run_stops p t y) fit.holds_left.distance fit.holds_right.distance refl in
     let same = same_length distance (run_stops p t x ++ run_stops p t y) (run_stops p t (followed_by x y)) (places-runs p t x y fit.follows) in
     let bound = length-run_in_range p t (followed_by x y) fit.in_range in
     record {
-      trips = subst (λ (n : ℕ). CanMerge section.segment next.segment (pos n) t.capacity) (joint-at p t duration x y last first fit.leaves fit.reaches)
-          (runs-can p t x y section.segment next.segment fit.holds_left.sound fit.holds_right.sound fit.follows fit.in_range fit.holds_left.stands fit.holds_right.stands);
+      trips = subst (λ (n : ℕ). CanMerge segment.trips next.trips (pos n) t.capacity) (joint-at p t duration x y last first fit.leaves fit.reaches)
+          (runs-can p t x y segment.trips next.trips fit.holds_left.sound fit.holds_right.sound fit.follows fit.in_range fit.holds_left.stands fit.holds_right.stands);
       sound_left = fit.holds_left.sound_distance;
       sound_right = fit.holds_right.sound_distance;
       joint = subst (λ (n : ℕ). IsJoint (pos n)) (joint-at p t distance x y last first fit.leaves fit.reaches)
           (joint-in_range distance (run_stops p t x) (run_stops p t y) (λ from to. distance-short p t from to fit.in_range.is_run.valid fit.in_range.is_run.allowed));
-      within = subst (λ (n : ℕ). IsWithinDistance (merged_distance section.distance next.distance (pos n))) (joint-at p t distance x y last first fit.leaves fit.reaches)
-          (record { distance = short (merged_distance section.distance next.distance (pos (joint distance (run_stops p t x) (run_stops p t y)))).distance _ _ both.distance same bound });
-      prizes = added section.prizes next.prizes (prizes_of p x.visits) (prizes_of p y.visits) (prizes_of p (followed_by x y).visits) fit.holds_left.prizes fit.holds_right.prizes
+      within = subst (λ (n : ℕ). IsWithinDistance (merged_distance segment.distance next.distance (pos n))) (joint-at p t distance x y last first fit.leaves fit.reaches)
+          (record { distance = short (merged_distance segment.distance next.distance (pos (joint distance (run_stops p t x) (run_stops p t y)))).distance _ _ both.distance same bound });
+      prizes = added segment.prizes next.prizes (prizes_of p x.visits) (prizes_of p y.visits) (prizes_of p (followed_by x y).visits) fit.holds_left.prizes fit.holds_right.prizes
           (prizes-append p x.visits y.visits) (prizes-run p t (followed_by x y) fit.in_range);
     }
   where
@@ -78,8 +78,8 @@ fit-can p t section last next first fit =
     added : (a b c d e : ℕ) → a ≡ c → b ≡ d → e ≡ c + d → e ≤ most_stops * largest → a + b ≤ largest_total
     added a b c d e h k f bound = omega arith
 
--- sections that are merged over the leg between two runs hold both
-pub joined-at : (p : Problem) (t : VehicleType) (section : Section) (last : ℕ) (next : Section) (first : ℕ) (both : Section) →
-    JoinsSections section next (leg_distance p t.profile last first) (leg_duration p t.profile last first) t.capacity both → JoinsAt p t section last next first both
-joined-at p t section last next first both joins x y h k follows leaves reaches in_range =
+-- segments that are merged over the leg between two runs hold both
+pub joined-at : (p : Problem) (t : VehicleType) (segment : RunSegment) (last : ℕ) (next : RunSegment) (first : ℕ) (both : RunSegment) →
+    JoinsRunSegments segment next (leg_distance p t.profile last first) (leg_duration p t.profile last first) t.capacity both → JoinsAt p t segment last next first both
+joined-at p t segment last next first both joins x y h k follows leaves reaches in_range =
     joins p t x y refl follows in_range (sym (joint-at p t (leg_distance p t.profile) x y last first leaves reaches)) (sym (joint-at p t (leg_duration p t.profile) x y last first leaves reaches)) h k

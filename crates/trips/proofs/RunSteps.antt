@@ -17,14 +17,17 @@ use Rattle.trips.specs.declared.trip_segment.RouteSegment.{RouteSegment}
 use Rattle.trips.specs.Conditions.{CanClose, IsSoundRoute}
 use Rattle.trips.specs.Laws.{IsInRange}
 use Rattle.trips.specs.Runs.{Run, followed_by, run_stops, whole}
-use Rattle.trips.specs.Standing.{ClosesRun}
+use Rattle.segments.specs.Totals.{IsTotal}
+use Rattle.trips.specs.Standing.{ClosesRun, StandsForRoute}
 use Rattle.trips.proofs.InRange.{whole-can}
-use Rattle.route_cache.specs.declared.sections.Section.{Section}
-use Rattle.route_cache.specs.Caching.{IsWhole}
-use Rattle.route_cache.specs.Routes.{IsListed, run_before, run_from}
-use Rattle.route_cache.specs.Sections.{FitTogether, HoldsRun, HoldsVisit, JoinsAt, Leaves, Reaches, alone, end_alone, place_behind, place_of_visit}
-use Rattle.route_cache.proofs.Counts.{named-listed, run-in_range}
-use Rattle.route_cache.proofs.Places.{leaves-all, leaves-longer, reaches-alone, reaches-end, reaches-longer, leaves-alone, same_length}
+use Rattle.trips.specs.declared.run_segment.RunSegment.{RunSegment}
+use Rattle.trips.specs.declared.whole_route.WholeRoute.{WholeRoute}
+use Rattle.trips.specs.WholeRoutes.{IsWhole}
+use Rattle.routing_model.specs.Listed.{IsListed}
+use Rattle.trips.specs.RunSegments.{FitTogether, HoldsRun, HoldsVisit, JoinsAt, Leaves, Reaches, alone, end_alone, place_behind, run_before, run_from}
+use Rattle.problem_data.specs.Visits.{place_of}
+use Rattle.trips.proofs.RunCounts.{named-listed, run-in_range}
+use Rattle.trips.proofs.RunPlaces.{leaves-all, leaves-longer, reaches-alone, reaches-end, reaches-longer, leaves-alone, same_length}
 
 -- a run of some visits of the list, from a position up to another
 abbrev pub part : Bool → List Visit → ℕ → ℕ → Bool → Run
@@ -60,7 +63,7 @@ slice-all : (visits : List Visit) → slice_range visits 0 (length visits) ≡ v
 slice-all visits = take_all (length visits - 0) visits (omega arith)
 
 -- a visit that is named has a place that is there
-pub place-named : (p : Problem) (visit : Visit) → IsTrue (names_place p visit) → place_of_visit visit < place_count p
+pub place-named : (p : Problem) (visit : Visit) → IsTrue (names_place p visit) → place_of visit < place_count p
 place-named p (Client place) named = grind (arith, nat_tests)
 place-named p (Reload depot) named = grind (arith, nat_tests)
 
@@ -74,14 +77,14 @@ last-there p start visits listed h = behind start visits (named-listed p visits 
     behind : (place : ℕ) (visits : List Visit) → All (λ visit. IsTrue (names_place p visit)) visits → place < place_count p → place_behind place visits < place_count p
     behind place [] named h = h
     behind place (visit ∷ visits) named h =
-        behind (place_of_visit visit) visits (All-tail (λ (visit : Visit). IsTrue (names_place p visit)) visit visits named)
+        behind (place_of visit) visits (All-tail (λ (visit : Visit). IsTrue (names_place p visit)) visit visits named)
         (place-named p visit (All-head (λ (visit : Visit). IsTrue (names_place p visit)) visit visits named))
 
--- one section more
-pub each-more : (P : ℕ → Section → Type 0) (xs now : List Section) (x : Section) (k : ℕ) → length xs ≡ k + 1 → now ≡ xs ++ x ∷ [] →
-    ((i : ℕ) (none : Section) → i ≤ k → P i (get_or xs i none)) → P (k + 1) x → (i : ℕ) (none : Section) → i ≤ k + 1 → P i (get_or now i none)
+-- one segment more
+pub each-more : (P : ℕ → RunSegment → Type 0) (xs now : List RunSegment) (x : RunSegment) (k : ℕ) → length xs ≡ k + 1 → now ≡ xs ++ x ∷ [] →
+    ((i : ℕ) (none : RunSegment) → i ≤ k → P i (get_or xs i none)) → P (k + 1) x → (i : ℕ) (none : RunSegment) → i ≤ k + 1 → P i (get_or now i none)
 each-more P xs now x k count is each more i none h =
-    subst (λ (ys : List Section). P i (get_or ys i none)) (sym is)
+    subst (λ (ys : List RunSegment). P i (get_or ys i none)) (sym is)
     (elim (earlier_or_last i k h) [
       | inl early ↦ subst (P i) (sym (get_or_append_left xs (x ∷ []) none i (omega arith))) (each i none early)
       | inr last ↦ subst (λ (j : ℕ). P j (get_or (xs ++ x ∷ []) j none)) (sym last) (subst (P (k + 1)) (sym (get_or_push xs x none (k + 1) count)) more)
@@ -96,10 +99,10 @@ module _ (p : Problem) (t : VehicleType) (visits : List Visit) (valid : IsValid 
       part starts visits first (k + 1) false ≡ followed_by (part starts visits first k false) (alone (get_or visits k none))
   run-more starts first k none h in_list = λ i. record { starts = starts; visits = slice-more visits first k none h in_list i; ends = false }
 
-  pub fit-more : (starts : Bool) (first k : ℕ) (none : Visit) (section : Section) (last : ℕ) (next : Section) → first ≤ k → k < length visits →
-      HoldsRun p t section (part starts visits first k false) → Leaves p t (part starts visits first k false) last → HoldsVisit p (get_or visits k none) next →
-      FitTogether p t section last next (place_of_visit (get_or visits k none))
-  fit-more starts first k none section last next h in_list holds leaves held = record {
+  pub fit-more : (starts : Bool) (first k : ℕ) (none : Visit) (segment : RunSegment) (last : ℕ) (next : RunSegment) → first ≤ k → k < length visits →
+      HoldsRun p t segment (part starts visits first k false) → Leaves p t (part starts visits first k false) last → HoldsVisit p (get_or visits k none) next →
+      FitTogether p t segment last next (place_of (get_or visits k none))
+  fit-more starts first k none segment last next h in_list holds leaves held = record {
     left = part starts visits first k false;
     right = alone (get_or visits k none);
     holds_left = holds;
@@ -110,18 +113,18 @@ module _ (p : Problem) (t : VehicleType) (visits : List Visit) (valid : IsValid 
     in_range = subst (IsInRange p t) (run-more starts first k none h in_list) (run-in_range p t visits starts first (k + 1) false valid allowed listed);
   }
 
-  pub holds-more : (starts : Bool) (first k : ℕ) (none : Visit) (section : Section) (last : ℕ) (next both : Section) → first ≤ k → k < length visits →
-      HoldsRun p t section (part starts visits first k false) → Leaves p t (part starts visits first k false) last → HoldsVisit p (get_or visits k none) next →
-      JoinsAt p t section last next (place_of_visit (get_or visits k none)) both → HoldsRun p t both (part starts visits first (k + 1) false)
-  holds-more starts first k none section last next both h in_list holds leaves held joins =
+  pub holds-more : (starts : Bool) (first k : ℕ) (none : Visit) (segment : RunSegment) (last : ℕ) (next both : RunSegment) → first ≤ k → k < length visits →
+      HoldsRun p t segment (part starts visits first k false) → Leaves p t (part starts visits first k false) last → HoldsVisit p (get_or visits k none) next →
+      JoinsAt p t segment last next (place_of (get_or visits k none)) both → HoldsRun p t both (part starts visits first (k + 1) false)
+  holds-more starts first k none segment last next both h in_list holds leaves held joins =
       subst (HoldsRun p t both) (sym (run-more starts first k none h in_list))
       (joins (part starts visits first k false) (alone (get_or visits k none)) holds (held t allowed) (record { goes_on = refl; begun = refl }) leaves
       (reaches-alone p t (get_or visits k none))
       (subst (IsInRange p t) (run-more starts first k none h in_list) (run-in_range p t visits starts first (k + 1) false valid allowed listed)))
 
-  pub leaves-more : (starts : Bool) (first k : ℕ) (none : Visit) → first ≤ k → k < length visits → Leaves p t (part starts visits first (k + 1) false) (place_of_visit (get_or visits k none))
+  pub leaves-more : (starts : Bool) (first k : ℕ) (none : Visit) → first ≤ k → k < length visits → Leaves p t (part starts visits first (k + 1) false) (place_of (get_or visits k none))
   leaves-more starts first k none h in_list =
-      subst (λ (run : Run). Leaves p t run (place_of_visit (get_or visits k none))) (sym (run-more starts first k none h in_list))
+      subst (λ (run : Run). Leaves p t run (place_of (get_or visits k none))) (sym (run-more starts first k none h in_list))
       (leaves-longer p t (part starts visits first k false) (get_or visits k none) refl)
 
   -- with the visit before it
@@ -131,10 +134,10 @@ module _ (p : Problem) (t : VehicleType) (visits : List Visit) (valid : IsValid 
   pub range-longer : (i : ℕ) (none : Visit) → i < length visits → IsInRange p t (followed_by (alone (get_or visits i none)) (run_from visits (i + 1)))
   range-longer i none in_list = subst (IsInRange p t) (run-longer i none in_list) (run-in_range p t visits false i (length visits) true valid allowed listed)
 
-  pub fit-longer : (i : ℕ) (none : Visit) (section : Section) (next : ℕ) (front : Section) → i < length visits →
-      HoldsRun p t section (run_from visits (i + 1)) → Reaches p t (run_from visits (i + 1)) next → HoldsVisit p (get_or visits i none) front →
-      FitTogether p t front (place_of_visit (get_or visits i none)) section next
-  fit-longer i none section next front in_list holds reaches held = record {
+  pub fit-longer : (i : ℕ) (none : Visit) (segment : RunSegment) (next : ℕ) (front : RunSegment) → i < length visits →
+      HoldsRun p t segment (run_from visits (i + 1)) → Reaches p t (run_from visits (i + 1)) next → HoldsVisit p (get_or visits i none) front →
+      FitTogether p t front (place_of (get_or visits i none)) segment next
+  fit-longer i none segment next front in_list holds reaches held = record {
     left = alone (get_or visits i none);
     right = run_from visits (i + 1);
     holds_left = held t allowed;
@@ -145,17 +148,17 @@ module _ (p : Problem) (t : VehicleType) (visits : List Visit) (valid : IsValid 
     in_range = range-longer i none in_list;
   }
 
-  pub holds-longer : (i : ℕ) (none : Visit) (section : Section) (next : ℕ) (front both : Section) → i < length visits →
-      HoldsRun p t section (run_from visits (i + 1)) → Reaches p t (run_from visits (i + 1)) next → HoldsVisit p (get_or visits i none) front →
-      JoinsAt p t front (place_of_visit (get_or visits i none)) section next both → HoldsRun p t both (run_from visits i)
-  holds-longer i none section next front both in_list holds reaches held joins =
+  pub holds-longer : (i : ℕ) (none : Visit) (segment : RunSegment) (next : ℕ) (front both : RunSegment) → i < length visits →
+      HoldsRun p t segment (run_from visits (i + 1)) → Reaches p t (run_from visits (i + 1)) next → HoldsVisit p (get_or visits i none) front →
+      JoinsAt p t front (place_of (get_or visits i none)) segment next both → HoldsRun p t both (run_from visits i)
+  holds-longer i none segment next front both in_list holds reaches held joins =
       subst (HoldsRun p t both) (sym (run-longer i none in_list))
       (joins (alone (get_or visits i none)) (run_from visits (i + 1)) (held t allowed) holds (record { goes_on = refl; begun = refl })
       (leaves-alone p t (get_or visits i none)) reaches (range-longer i none in_list))
 
-  pub reaches-before : (i : ℕ) (none : Visit) → i < length visits → Reaches p t (run_from visits i) (place_of_visit (get_or visits i none))
+  pub reaches-before : (i : ℕ) (none : Visit) → i < length visits → Reaches p t (run_from visits i) (place_of (get_or visits i none))
   reaches-before i none in_list =
-      subst (λ (run : Run). Reaches p t run (place_of_visit (get_or visits i none))) (sym (run-longer i none in_list))
+      subst (λ (run : Run). Reaches p t run (place_of (get_or visits i none))) (sym (run-longer i none in_list))
       (reaches-longer p t (get_or visits i none) (run_from visits (i + 1)))
 
   -- the whole list
@@ -174,7 +177,7 @@ module _ (p : Problem) (t : VehicleType) (visits : List Visit) (valid : IsValid 
   pub leaves-before : Leaves p t (run_before visits (length visits)) (place_behind t.start visits)
   leaves-before = subst (λ (run : Run). Leaves p t run (place_behind t.start visits)) (sym run-starts) (leaves-all p t visits)
 
-  pub fit-whole : (before end : Section) → HoldsRun p t before (run_before visits (length visits)) → HoldsRun p t end end_alone → FitTogether p t before (place_behind t.start visits) end t.end
+  pub fit-whole : (before end : RunSegment) → HoldsRun p t before (run_before visits (length visits)) → HoldsRun p t end end_alone → FitTogether p t before (place_behind t.start visits) end t.end
   fit-whole before end holds held = record {
     left = run_before visits (length visits);
     right = end_alone;
@@ -186,19 +189,21 @@ module _ (p : Problem) (t : VehicleType) (visits : List Visit) (valid : IsValid 
     in_range = whole-joined;
   }
 
-  pub holds-whole : (before end all : Section) → HoldsRun p t before (run_before visits (length visits)) → HoldsRun p t end end_alone → JoinsAt p t before (place_behind t.start visits) end t.end all →
+  pub holds-whole : (before end all : RunSegment) → HoldsRun p t before (run_before visits (length visits)) → HoldsRun p t end end_alone → JoinsAt p t before (place_behind t.start visits) end t.end all →
       HoldsRun p t all (whole visits)
   holds-whole before end all holds held joins =
       subst (HoldsRun p t all) run-whole
       (joins (run_before visits (length visits)) end_alone holds held (record { goes_on = refl; begun = refl }) leaves-before (reaches-end p t) whole-joined)
 
-  pub can-close : (all : Section) → HoldsRun p t all (whole visits) → CanClose all.segment t.capacity
-  can-close all holds = whole-can p t visits all.segment holds.sound whole-in_range holds.stands
+  pub can-close : (all : RunSegment) → HoldsRun p t all (whole visits) → CanClose all.trips t.capacity
+  can-close all holds = whole-can p t visits all.trips holds.sound whole-in_range holds.stands
 
-  pub is-whole : (all : Section) (route : RouteSegment) → HoldsRun p t all (whole visits) → IsSoundRoute route → ClosesRun all.segment t.capacity route → IsWhole p t visits route all.distance.distance
-  is-whole all route holds sound closes = record {
-    sound = sound;
-    stands = closes p t visits refl whole-in_range.is_run holds.stands;
-    sound_driven = holds.sound_distance.distance;
-    is_distance = holds.distance.distance ∙ ap (λ (n : ℕ). pos n) (same_length (leg_distance p t.profile) (run_stops p t (whole visits)) (stops p t visits) refl);
+  pub is-whole : (all : RunSegment) (segment : RouteSegment) (route : WholeRoute) → HoldsRun p t all (whole visits) → IsSoundRoute segment → ClosesRun all.trips t.capacity segment →
+      route.segment ≡ segment → route.distance ≡ all.distance.distance → route.prizes ≡ all.prizes → IsWhole p t visits route
+  is-whole all segment route holds sound closes is_segment is_distance is_prizes = record {
+    sound = subst IsSoundRoute (sym is_segment) sound;
+    stands = subst (λ (s : RouteSegment). StandsForRoute p t s visits) (sym is_segment) (closes p t visits refl whole-in_range.is_run holds.stands);
+    sound_distance = subst IsTotal (sym is_distance) holds.sound_distance.distance;
+    is_distance = is_distance ∙ holds.distance.distance ∙ ap (λ (n : ℕ). pos n) (same_length (leg_distance p t.profile) (run_stops p t (whole visits)) (stops p t visits) refl);
+    prizes = is_prizes ∙ holds.prizes;
   }

@@ -18,8 +18,8 @@ use Rattle.routing_model.specs.Tidy.{is_tidy_behind}
 use Rattle.trips.specs.Laws.{IsInRange, most_stops}
 use Rattle.trips.specs.Runs.{Run, run_stops, stops_before, stops_behind}
 use Rattle.trips.proofs.Quantities.{valid_client_at}
-use Rattle.route_cache.specs.Routes.{IsListed}
-use Rattle.route_cache.specs.Sections.{prizes_of}
+use Rattle.routing_model.specs.Listed.{IsListed}
+use Rattle.trips.specs.RunSegments.{prizes_of}
 
 -- how many stops a visit has
 abbrev stops_of : Visit → ℕ
