@@ -17,3 +17,5 @@ pub mod RunCounts
 pub mod RunJoins
 pub mod RunVisits
 pub mod RunSteps
+pub mod WholeDrives
+pub mod TidyJoints

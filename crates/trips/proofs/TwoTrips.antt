@@ -10,7 +10,7 @@ use Rattle.problem_data.specs.declared.problem.Client.{Client as ClientOf}
 use Rattle.problem_data.specs.declared.problem.VehicleType.{VehicleType}
 use Rattle.problem_data.specs.declared.visit.Visit.{Visit}
 use Rattle.problem_data.specs.declared.visit.Visit.TheVariants.{Client, Reload}
-use Rattle.problem_data.specs.Limits.{largest_leg}
+use Rattle.problem_data.specs.Limits.{largest_leg, most_visits}
 use Rattle.problem_data.specs.Matrix.{Table, entry}
 use Rattle.problem_data.specs.Places.{client_at, group_at, leg_duration}
 use Rattle.problem_data.specs.Valid.{IsValid, IsValidPlace, IsValidDepot, IsValidClient, IsValidTable, IsValidProfile, IsValidType, IsValidGroup, IsGroupedAsListed}
@@ -18,7 +18,6 @@ use Rattle.routing_model.specs.Clock.{joint}
 use Rattle.routing_model.specs.Lawful.{names_place}
 use Rattle.trips.specs.declared.trip_segment.TripSegment.{TripSegment}
 use Rattle.trips.specs.Conditions.{CanMerge, IsSoundTrips}
-use Rattle.trips.specs.Laws.{most_stops}
 use Rattle.trips.specs.Runs.{Run, Follows, IsRunOf, followed_by, run_stops}
 use Rattle.trips.specs.Standing.{StandsForRun}
 use Rattle.trips.proofs.InRange.{runs-can}
@@ -161,14 +160,14 @@ run visits = record { starts = true; visits = visits; ends = false }
 abbrev pub lone : Visit → Run
 lone visit = record { starts = false; visits = visit ∷ []; ends = false }
 
--- a run of it with few stops can be merged with the next
+-- a run of it with few visits can be merged with the next
 pub merges : (x y : Run) (left right : TripSegment) → Follows x y → All (λ visit. IsTrue (names_place two_trips visit)) (followed_by x y).visits →
-    length (run_stops two_trips one_vehicle (followed_by x y)) ≤ most_stops → joint (leg_duration two_trips 0) (run_stops two_trips one_vehicle x) (run_stops two_trips one_vehicle y) ≡ 5 →
+    length (followed_by x y).visits ≤ most_visits → joint (leg_duration two_trips 0) (run_stops two_trips one_vehicle x) (run_stops two_trips one_vehicle y) ≡ 5 →
     IsSoundTrips left → IsSoundTrips right → StandsForRun two_trips one_vehicle left x → StandsForRun two_trips one_vehicle right y → CanMerge left right (pos 5) 10
 merges x y left right follows named few e sound_left sound_right stands_left stands_right =
     subst (λ (n : ℕ). CanMerge left right (pos n) 10) e
     (runs-can two_trips one_vehicle x y left right sound_left sound_right follows
-    (record { is_run = record { valid = two_trips-valid; allowed = vehicle_valid; named = named }; few_stops = few }) stands_left stands_right)
+    (record { is_run = record { valid = two_trips-valid; allowed = vehicle_valid; named = named }; few = few }) stands_left stands_right)
 
 -- the visits of the list are there
 abbrev pub Named : List Visit → Type 0

@@ -16,7 +16,10 @@ mod trip_segment;
 mod whole_route;
 
 pub use joints::{Joint, tidy_joint};
-pub use laws::segments_of_runs_are_in_range;
+pub use laws::{
+    joints_name_what_is_not_tidy, routes_are_bounded_by_stops, routes_tell_their_drives,
+    segments_of_runs_are_in_range,
+};
 pub use pieces::{Middle, Piece};
 pub use run_segment::RunSegment;
 pub use spans::{Trip, trips_of};

@@ -62,4 +62,4 @@ close-route-requires g c =
     c.merge-all.ensures.joins two_trips one_vehicle (run (Client 1 ∷ Reload 0 ∷ Client 2 ∷ [])) end refl (record { goes_on = refl; begun = refl }) (is_run (whole (Client 1 ∷ Reload 0 ∷ Client 2 ∷ [])) named-3) refl
     third (c.arrival.ensures.stands two_trips one_vehicle refl) in
     whole-can two_trips one_vehicle (Client 1 ∷ Reload 0 ∷ Client 2 ∷ []) c.merge-all.result c.merge-all.ensures.sound
-    (record { is_run = is_run (whole (Client 1 ∷ Reload 0 ∷ Client 2 ∷ [])) named-3; few_stops = lit≤ tt }) all
+    (record { is_run = is_run (whole (Client 1 ∷ Reload 0 ∷ Client 2 ∷ [])) named-3; few = lit≤ tt }) all
