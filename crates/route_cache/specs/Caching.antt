@@ -5,7 +5,7 @@ use Rattle.problem_data.specs.declared.problem.VehicleType.{VehicleType}
 use Rattle.problem_data.specs.declared.visit.Visit.{Visit}
 use Rattle.problem_data.specs.Places.{vehicle_count}
 use Rattle.problem_data.specs.Valid.{IsValid}
-use Rattle.trips.specs.declared.spans.Trip.{Trip}
+use Rattle.trips.specs.declared.trip.Trip.{Trip}
 use Rattle.trips.specs.declared.whole_route.WholeRoute.{WholeRoute}
 use Rattle.trips.specs.Spans.{spans_from, trips_in}
 use Rattle.trips.specs.WholeRoutes.{IsWhole}

@@ -6,8 +6,8 @@ use Rattle.problem_data.specs.declared.problem.VehicleType.{VehicleType}
 use Rattle.problem_data.specs.Places.{leg_duration}
 use Rattle.routing_model.specs.Clock.{joint}
 use Rattle.segments.specs.Totals.{IsJoint}
-use Rattle.trips.specs.declared.pieces.Piece.{Piece}
-use Rattle.trips.specs.declared.pieces.Middle.{Middle}
+use Rattle.trips.specs.declared.piece.Piece.{Piece}
+use Rattle.trips.specs.declared.middle.Middle.{Middle}
 use Rattle.trips.specs.declared.trip_segment.TripSegment.TheVariants.{Open, Split}
 use Rattle.trips.specs.Conditions.{CanMergeBetween, IsSoundSplit}
 use Rattle.trips.specs.Laws.{IsInRange, RunsCanBeMerged, WholeRunsCanBeClosed}

@@ -1,14 +1,13 @@
 -- The joint of a beginning and an ending of tidy lists names the one visit that isn't tidy.
-use Rattle.std.proofs.Common.{◌≡◌, ℕ, suc, ◌-◌, Bool, true, false, ◌&&◌, List, [], ◌∷◌, ◌++◌, length, take, refl, ◌∙◌, ap, sym, arith, cond, Option, Some, None}
-use Rattle.std.specs.Prelude.{drop}
+use Rattle.std.proofs.Common.{◌≡◌, ℕ, suc, ◌-◌, Bool, true, false, ◌&&◌, List, [], ◌∷◌, ◌++◌, length, take, refl, ◌∙◌, ap, arith, cond, Option, Some, None}
 use Rattle.problem_data.specs.declared.visit.Visit.{Visit}
 use Rattle.problem_data.specs.declared.visit.Visit.TheVariants.{Client, Reload}
 use Rattle.routing_model.specs.Routes.{is_used}
 use Rattle.routing_model.specs.Tidy.{is_tidy_behind, tidied_behind}
 use Rattle.routing_model.proofs.Tidying.{tidied-tidy}
-use Rattle.trips.specs.declared.joints.Joint.{Joint}
-use Rattle.trips.specs.declared.joints.Joint.TheVariants.{Keep, DropLeft, DropRight}
-use Rattle.trips.specs.Joints.{JointsTidy, first_visit, is_some_client, joined_by, joint_of, last_visit}
+use Rattle.trips.specs.declared.joint.Joint.{Joint}
+use Rattle.trips.specs.declared.joint.Joint.TheVariants.{Keep, DropLeft, DropRight}
+use Rattle.trips.specs.Joints.{JointsTidy, first_visit, joined_by, joint_of, last_visit}
 
 both-first : (a b : Bool) → (a && b) ≡ true → a ≡ true
 both-first true b h = refl

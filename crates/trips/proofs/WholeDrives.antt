@@ -1,21 +1,20 @@
 -- What the segment of a whole route tells, and what a route takes and exceeds at most.
-use Rattle.std.proofs.Common.{◌≡◌, ℕ, ◌+◌, ◌*◌, ◌≤◌, List, [], ◌∷◌, ◌++◌, length, refl, subst, arith, length-append, sum_by}
+use Rattle.std.proofs.Common.{◌≡◌, ◌≤◌, List, [], ◌∷◌, ◌++◌, length, refl, subst, arith, length-append, sum_by}
 use Rattle.std.specs.Prelude.{All}
 use Rattle.problem_data.specs.declared.problem.Problem.{Problem}
 use Rattle.problem_data.specs.declared.problem.VehicleType.{VehicleType}
 use Rattle.problem_data.specs.declared.visit.Visit.{Visit}
 use Rattle.problem_data.specs.declared.visit.Visit.TheVariants.{Client, Reload}
-use Rattle.problem_data.specs.Limits.{largest, largest_leg}
+use Rattle.problem_data.specs.Limits.{largest}
 use Rattle.problem_data.specs.Places.{depot_at, leg_distance, leg_duration}
 use Rattle.problem_data.specs.Valid.{IsValid, IsValidType}
-use Rattle.routing_model.specs.Clock.{Stop}
 use Rattle.routing_model.specs.Load.{excess_load}
 use Rattle.routing_model.specs.Stops.{met, stop_at, stops, trip_release, visit_stops}
 use Rattle.segments.specs.Duration.{IsInReach}
 use Rattle.segments.proofs.Standing.{least_duration-is, least_warp-is}
 use Rattle.trips.specs.declared.trip_segment.RouteSegment.{RouteSegment}
 use Rattle.trips.specs.Conditions.{IsSoundRoute}
-use Rattle.trips.specs.Laws.{IsBoundedByStops, TellsDrive, most_added}
+use Rattle.trips.specs.Laws.{IsBoundedByStops, TellsDrive}
 use Rattle.trips.specs.Runs.{IsRunOf, end_stop, stretches, trip_excess, whole}
 use Rattle.trips.specs.Standing.{StandsForRoute}
 use Rattle.trips.proofs.Drives.{IsTame, best_drive-slow}

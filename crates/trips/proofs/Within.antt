@@ -1,6 +1,6 @@
 -- Pieces and trips that stand for few modest stretches are within the range.
 use Rattle.std.proofs.Common.{◌≡◌, ℕ, ◌+◌, ◌-◌, ◌*◌, ◌≤◌, List, [], ◌∷◌, ◌++◌, length, refl, arith, subst, sum_by, flat_map, Some}
-use Rattle.std.specs.Prelude.{All, ℤ, pos, ◌≤ℤ◌}
+use Rattle.std.specs.Prelude.{ℤ, pos, ◌≤ℤ◌}
 use Rattle.std.proofs.lemmas.Int.{ints, clamps}
 use Rattle.std.proofs.lemmas.List.Elements.{All-head}
 use Rattle.std.proofs.lemmas.List.Sums.{sum_by-cons}
@@ -17,8 +17,8 @@ use Rattle.segments.specs.Load.{IsWithinLoad, StandsForLoad}
 use Rattle.segments.specs.Totals.{IsJoint, largest_total}
 use Rattle.segments.proofs.Standing.{merged-sound, released-sound}
 use Rattle.segments.proofs.TripLoads.{merged-sound_load}
-use Rattle.trips.specs.declared.pieces.Piece.{Piece}
-use Rattle.trips.specs.declared.pieces.Middle.{Middle}
+use Rattle.trips.specs.declared.piece.Piece.{Piece}
+use Rattle.trips.specs.declared.middle.Middle.{Middle}
 use Rattle.trips.specs.Conditions.{CanClosePiece, CanMergeMiddles, CanMergePieces, IsSoundMiddle, IsSoundPiece}
 use Rattle.trips.specs.Merging.{closed_piece, merged_middle, merged_piece}
 use Rattle.trips.specs.Runs.{Stretch, trip_excess, trip_stops}

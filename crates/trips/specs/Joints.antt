@@ -3,8 +3,8 @@ use Rattle.std.specs.Prelude.{◌≡◌, ◌-◌, Option, Some, None, Bool, true
 use Rattle.problem_data.specs.declared.visit.Visit.{Visit}
 use Rattle.problem_data.specs.declared.visit.Visit.TheVariants.{Client, Reload}
 use Rattle.routing_model.specs.Tidy.{is_tidy, tidied}
-use Rattle.trips.specs.declared.joints.Joint.{Joint}
-use Rattle.trips.specs.declared.joints.Joint.TheVariants.{Keep, DropLeft, DropRight}
+use Rattle.trips.specs.declared.joint.Joint.{Joint}
+use Rattle.trips.specs.declared.joint.Joint.TheVariants.{Keep, DropLeft, DropRight}
 
 -- whether a client stands there
 abbrev pub is_some_client : Option Visit → Bool

@@ -7,3 +7,4 @@ pub mod Runs
 pub mod Spans
 pub mod Standing
 pub mod WholeRoutes
+pub mod inside

@@ -1,7 +1,7 @@
 use Rattle.std.proofs.Common.{◌≡◌, arith, w64, to_z, of_z, FitsSigned}
 use Rattle.std.specs.Int.{int_max}
 use Rattle.std.proofs.lemmas.Int.{ints, clamps, to_z-of_z}
-use Rattle.trips.proofs.pieces.Piece.merge.Goals as goal
+use Rattle.trips.proofs.piece.Piece.merge.Goals as goal
 
 pub returns-clause-value : goal.returns-clause-value
 returns-clause-value c =

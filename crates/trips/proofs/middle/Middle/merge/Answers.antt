@@ -1,6 +1,6 @@
 use Rattle.std.proofs.Common.{◌≡◌, arith, w64, to_z, of_z, ◌+ℤ◌}
 use Rattle.std.proofs.lemmas.Int.{ints}
-use Rattle.trips.proofs.pieces.Middle.merge.Goals as goal
+use Rattle.trips.proofs.middle.Middle.merge.Goals as goal
 
 pub returns-clause-value : goal.returns-clause-value
 returns-clause-value c =

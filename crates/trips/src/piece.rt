@@ -1,8 +1,9 @@
-ghost use Rattle.std.specs.Prelude.{◌≡◌, ◌+ℤ◌, pos};
-ghost use Rattle.segments.specs.Duration.{StandsForNothing};
-ghost use Rattle.trips.specs.Conditions.{CanClosePiece, CanMergeMiddles, CanMergePieces, IsSoundMiddle, IsSoundPiece};
-ghost use Rattle.trips.specs.Merging.{closed_piece, merged_middle, merged_piece};
+//! Stops of one trip, whose release isn't applied yet.
+ghost use Rattle.std.specs.Prelude.{◌≡◌};
+ghost use Rattle.trips.specs.Conditions.{CanClosePiece, CanMergePieces, IsSoundMiddle, IsSoundPiece};
+ghost use Rattle.trips.specs.Merging.{closed_piece, merged_piece};
 
+use crate::middle::Middle;
 use segments::{DurationSegment, LoadSegment, Segment};
 
 /// Stops without a reload between them, whose release isn't applied yet.
@@ -14,15 +15,6 @@ pub struct Piece {
     pub load: LoadSegment,
     /// The largest release of its clients, from 0 to 10^12: the trip departs no earlier.
     pub release: i64,
-}
-
-/// Whole trips, with their releases applied.
-#[derive(Clone, Copy, Debug, PartialEq, Eq)]
-pub struct Middle {
-    /// The drive of their stops.
-    pub duration: DurationSegment,
-    /// What their loads exceed the capacity by, added up, from 0 to 10^16.
-    pub excess: i64,
 }
 
 impl Piece {
@@ -48,32 +40,6 @@ impl Piece {
         Middle {
             duration: self.duration.released(self.release),
             excess: (self.load.load - capacity as i64).max(0),
-        }
-    }
-}
-
-impl Middle {
-    /// No trip.
-    pub(crate) fn none() -> Middle
-        ensures nothing { StandsForNothing result.duration }
-        ensures excess { result.excess ≡ pos 0 }
-        ensures sound { IsSoundMiddle result }
-    {
-        Middle {
-            duration: DurationSegment::empty(),
-            excess: 0,
-        }
-    }
-
-    /// Both, `right` behind `self`. From an arrival at a depot to the departure there nothing is driven.
-    pub(crate) fn merge(self, right: Middle) -> Middle
-        requires { CanMergeMiddles self right }
-        ensures value { result ≡ merged_middle self right }
-        ensures sound { IsSoundMiddle result }
-    {
-        Middle {
-            duration: self.duration.merge(right.duration, 0),
-            excess: self.excess + right.excess,
         }
     }
 }

@@ -1,7 +1,7 @@
 use Rattle.std.proofs.Common.{◌≡◌, arith, rules, w64, to_z, of_z, pos, ◌-ℤ◌, FitsSigned}
 use Rattle.std.specs.Int.{int_max}
 use Rattle.std.proofs.lemmas.Int.{ints, clamps, to_z-of_z}
-use Rattle.trips.proofs.pieces.Piece.close.Goals as goal
+use Rattle.trips.proofs.piece.Piece.close.Goals as goal
 
 pub returns-clause-value : goal.returns-clause-value
 returns-clause-value c =

@@ -1,3 +1,4 @@
+//! What is left out where two visits come to stand side by side.
 ghost use Rattle.std.specs.Prelude.{◌≡◌};
 ghost use Rattle.trips.specs.Joints.{joint_of};
 

@@ -1,4 +1,6 @@
+//! The trips of a list.
 ghost use Rattle.std.specs.Prelude.{◌≡◌, ◌≤◌, IfOk, length, map};
+ghost use Rattle.problem_data.specs.Limits.{most_visits};
 ghost use Rattle.trips.specs.Spans.{spans_from, trip_visits, trips_in, visits_of};
 
 use problem_data::{NoMemory, Visit};
@@ -14,10 +16,10 @@ pub struct Trip {
     pub end: u32,
 }
 
-/// The trips of a list, in order: the runs of clients between reloads. An empty list has none. Condition: the list has at most
-/// 2,079 visits. Refused only where memory runs out.
+/// The trips of a list, in order: the runs of clients between reloads. An empty list has none. Condition: the list has no more visits
+/// than a vehicle can have. Refused only where memory runs out.
 pub fn trips_of(alloc: Global, visits: &[Visit]) -> Result<SmallVec<Trip, 4>, NoMemory>
-    requires { length visits.now ≤ 2079 }
+    requires { length visits.now ≤ most_visits }
     ensures places { IfOk result (λ r. r.items ≡ spans_from 0 (trips_in visits.now)) }
     ensures clients { IfOk result (λ r. map (visits_of visits.now) r.items ≡ trip_visits visits.now) }
 {

@@ -1,9 +1,9 @@
 use Rattle.std.proofs.Common.{arith, ◌∙◌, ap, List, map}
 use Rattle.std.proofs.lemmas.Grind.{common_steps}
-use Rattle.trips.specs.declared.spans.Trip.{Trip}
+use Rattle.trips.specs.declared.trip.Trip.{Trip}
 use Rattle.trips.specs.Spans.{visits_of}
 use Rattle.trips.proofs.SpanRest.{spans-clients}
-use Rattle.trips.proofs.spans.trips_of.Goals as goal
+use Rattle.trips.proofs.trip.trips_of.Goals as goal
 
 pub returns-clause-places : goal.returns-clause-places
 returns-clause-places c = grind (arith, common_steps)
