@@ -1,38 +1,17 @@
--- What a vehicle's list takes and exceeds, and the conditions on lists.
-use Rattle.std.specs.Prelude.{◌≡◌, ℕ, ◌+◌, ◌-◌, ◌*◌, ◌^◌, ◌≤◌, List, All, IsTrue, length, sum_by, zip}
-use Rattle.std.specs.List.{list_all}
+-- What a vehicle's list takes and exceeds.
+use Rattle.std.specs.Prelude.{◌≡◌, ℕ, ◌+◌, ◌-◌, ◌*◌, ◌^◌, ◌≤◌, List, sum_by, zip}
 use Rattle.problem_data.specs.declared.problem.Problem.{Problem}
 use Rattle.problem_data.specs.declared.problem.VehicleType.{VehicleType}
 use Rattle.problem_data.specs.declared.visit.Visit.{Visit}
-use Rattle.problem_data.specs.Places.{fleet, vehicle_count}
+use Rattle.problem_data.specs.Places.{fleet}
 use Rattle.routing_model.specs.declared.weights.Weights.{Weights}
 use Rattle.routing_model.specs.Clock.{Drive}
 use Rattle.routing_model.specs.Cost.{distance, excess_time, route_cost, route_drive}
-use Rattle.routing_model.specs.Lawful.{names_place, visits_at_most_once}
 use Rattle.routing_model.specs.Load.{excess_load}
 use Rattle.routing_model.specs.Routes.{Routes}
-use Rattle.routing_model.specs.Tidy.{is_tidy}
+use Rattle.segments.specs.Totals.{largest_total}
+use Rattle.trips.specs.Laws.{most_added}
 use Rattle.penalty_cost.specs.declared.totals.Totals.{Totals}
-use Rattle.penalty_cost.specs.Path.{most_time}
-use Rattle.penalty_cost.specs.Stretch.{most_visits}
-
--- the list of one vehicle can be costed: it names existing places, is tidy, and isn't too long
-pub record IsDrivable (p : Problem) (visits : List Visit) : Type 0 where
-  pub named : IsTrue (list_all (names_place p) visits)
-  pub tidy : IsTrue (is_tidy visits)
-  pub short : length visits ≤ most_visits
-
--- a plan can be costed: there is one list for each vehicle, each can be, and no client stands twice
-pub record IsDrivablePlan (p : Problem) (routes : Routes) : Type 0 where
-  pub one_list_each : length routes ≡ vehicle_count p
-  pub drivable : All (IsDrivable p) routes
-  pub at_most_once : IsTrue (visits_at_most_once p routes)
-
--- each weight is within its limit
-pub record IsWeighed (w : Weights) : Type 0 where
-  pub load : w.load ≤ 10 ^ 9
-  pub warp : w.warp ≤ 10 ^ 9
-  pub distance : w.distance ≤ 10 ^ 9
 
 -- the list's totals
 pub record AreTotals (p : Problem) (t : VehicleType) (visits : List Visit) (totals : Totals) : Type 0 where
@@ -43,10 +22,10 @@ pub record AreTotals (p : Problem) (t : VehicleType) (visits : List Visit) (tota
 
 -- no total is above the most
 pub record AreShort (totals : Totals) : Type 0 where
-  pub distance : totals.distance ≤ 10 ^ 16
-  pub duration : totals.duration ≤ 10 ^ 16
-  pub warp : totals.warp ≤ 10 ^ 16
-  pub excess_load : totals.excess_load ≤ 10 ^ 16
+  pub distance : totals.distance ≤ largest_total
+  pub duration : totals.duration ≤ largest_total
+  pub warp : totals.warp ≤ largest_total
+  pub excess_load : totals.excess_load ≤ largest_total
 
 -- the drive of the totals
 abbrev pub drive_of : Totals → Drive
@@ -68,7 +47,7 @@ vehicles_cost p w routes = sum_by (λ (v : VehicleType × List Visit). route_cos
 
 -- no total is above what so many stops make
 pub record AreShared (stops : ℕ) (totals : Totals) : Type 0 where
-  pub distance : totals.distance ≤ stops * most_time
-  pub duration : totals.duration ≤ stops * most_time
-  pub warp : totals.warp ≤ stops * most_time
-  pub excess_load : totals.excess_load ≤ stops * most_time
+  pub distance : totals.distance ≤ stops * most_added
+  pub duration : totals.duration ≤ stops * most_added
+  pub warp : totals.warp ≤ stops * most_added
+  pub excess_load : totals.excess_load ≤ stops * most_added
