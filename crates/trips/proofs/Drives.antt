@@ -9,8 +9,8 @@ use Rattle.routing_model.specs.Clock.{Clock, Stop, best_drive, drive, last_start
 use Rattle.routing_model.specs.Clock.{Drive as Walk}
 use Rattle.routing_model.proofs.BestDrive.{best_drive-is}
 use Rattle.routing_model.proofs.Walks.{started}
-use Rattle.segments.specs.declared.durations.Drive.{Drive}
-use Rattle.segments.specs.declared.durations.DurationSegment.{DurationSegment}
+use Rattle.segments.specs.declared.duration_segment.Drive.{Drive}
+use Rattle.segments.specs.declared.duration_segment.DurationSegment.{DurationSegment}
 use Rattle.segments.specs.Duration.{IsWithinDuration, Stands}
 use Rattle.segments.specs.Totals.{largest_total}
 use Rattle.trips.specs.Laws.{most_added}

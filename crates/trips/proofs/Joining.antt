@@ -12,7 +12,7 @@ use Rattle.problem_data.specs.Places.{leg_duration}
 use Rattle.routing_model.specs.Clock.{Stop, joint, released_at}
 use Rattle.routing_model.specs.Load.{trip_load}
 use Rattle.segment_model.specs.Span.{latest_moment}
-use Rattle.segments.specs.declared.durations.DurationSegment.{DurationSegment}
+use Rattle.segments.specs.declared.duration_segment.DurationSegment.{DurationSegment}
 use Rattle.segments.specs.Duration.{Stands, merged_duration, released_from}
 use Rattle.segments.proofs.Standing.{merged-joins, released-releases}
 use Rattle.segments.proofs.TripLoads.{merged-joins_loads}

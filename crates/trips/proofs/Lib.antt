@@ -11,7 +11,6 @@ pub mod Drives
 pub mod Sizes
 pub mod Within
 pub mod InRange
-pub mod TwoTrips
 pub mod RunPlaces
 pub mod RunCounts
 pub mod RunJoins
@@ -19,3 +18,5 @@ pub mod RunVisits
 pub mod RunSteps
 pub mod WholeDrives
 pub mod TidyJoints
+pub mod Bounds
+pub mod RunEnds

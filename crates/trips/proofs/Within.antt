@@ -11,7 +11,7 @@ use Rattle.problem_data.specs.Places.{client_at, leg_duration}
 use Rattle.problem_data.specs.Valid.{IsValid, IsValidType}
 use Rattle.routing_model.specs.Clock.{Stop, joint, last_place}
 use Rattle.routing_model.specs.Load.{largest_load, trip_load}
-use Rattle.segments.specs.declared.loads.LoadSegment.{LoadSegment}
+use Rattle.segments.specs.declared.load_segment.LoadSegment.{LoadSegment}
 use Rattle.segments.specs.Duration.{IsWithinDuration}
 use Rattle.segments.specs.Load.{IsWithinLoad, StandsForLoad}
 use Rattle.segments.specs.Totals.{IsJoint, largest_total}

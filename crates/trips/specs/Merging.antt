@@ -4,8 +4,8 @@ use Rattle.std.specs.Int.{int_max}
 use Rattle.problem_data.specs.declared.problem.Client.{Client}
 use Rattle.problem_data.specs.declared.problem.Depot.{Depot}
 use Rattle.problem_data.specs.declared.problem.Window.{Window}
-use Rattle.segments.specs.declared.durations.DurationSegment.{DurationSegment}
-use Rattle.segments.specs.declared.loads.LoadSegment.{LoadSegment}
+use Rattle.segments.specs.declared.duration_segment.DurationSegment.{DurationSegment}
+use Rattle.segments.specs.declared.load_segment.LoadSegment.{LoadSegment}
 use Rattle.segments.specs.Duration.{merged_duration, no_duration, released_from}
 use Rattle.segments.specs.Load.{merged_load, no_load}
 use Rattle.trips.specs.declared.piece.Piece.{Piece}

@@ -10,8 +10,6 @@ mod laws;
 mod middle;
 mod piece;
 mod run_segment;
-#[cfg(test)]
-mod tests;
 mod trip;
 mod trip_segment;
 mod whole_route;
@@ -19,7 +17,8 @@ mod whole_route;
 pub use joint::{Joint, tidy_joint};
 pub use laws::{
     joints_name_what_is_not_tidy, routes_are_bounded_by_stops, routes_tell_their_drives,
-    segments_of_runs_are_in_range,
+    runs_leave_and_reach_their_visits, segments_of_runs_are_in_range,
+    trips_take_at_least_what_their_parts_take,
 };
 pub use middle::Middle;
 pub use piece::Piece;

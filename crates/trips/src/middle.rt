@@ -7,7 +7,7 @@ ghost use Rattle.trips.specs.Merging.{merged_middle, no_trip};
 use segments::{DurationSegment, Segment};
 
 /// Whole trips, with their releases applied.
-#[derive(Clone, Copy, Debug, PartialEq, Eq)]
+#[derive(Clone, Copy, Debug, Default, PartialEq, Eq)]
 pub struct Middle {
     /// The drive of their stops.
     pub duration: DurationSegment,
