@@ -13,7 +13,7 @@ ghost use Rattle.search_model.specs.Moves.{moved};
 ghost use Rattle.search_model.specs.Targets.{put_before, put_behind};
 ghost use Rattle.early_search.specs.ClientMoves.{AreOf, IsClientMove, IsMove, IsPut, IsTargetOf, changed, taken_out, two_changes};
 ghost use Rattle.early_search.specs.ClientPlans.{IsClientPlan};
-ghost use Rattle.penalty_cost.specs.Totals.{IsWeighed};
+ghost use Rattle.penalty_cost.specs.Plans.{IsWeighed};
 
 use crate::plan_cost::cost_of_lists;
 use problem_data::{NoMemory, ProblemData, Reads, Steps, Visit, VisitList, is_used};

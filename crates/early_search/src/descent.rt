@@ -8,7 +8,7 @@ ghost use Rattle.search_model.specs.Search.{descended};
 ghost use Rattle.command_model.specs.EarlySearch.{random_descent};
 ghost use Rattle.early_search.specs.ClientMoves.{IsClientMove};
 ghost use Rattle.early_search.specs.ClientPlans.{IsClientPlan};
-ghost use Rattle.penalty_cost.specs.Totals.{IsWeighed};
+ghost use Rattle.penalty_cost.specs.Plans.{IsWeighed};
 
 use crate::candidates::early_candidates;
 use crate::client_moves::improved_by;

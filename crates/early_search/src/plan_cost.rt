@@ -3,7 +3,7 @@ ghost use Rattle.std.specs.Prelude.{◌≡◌, IsTrue, pos};
 ghost use Rattle.routing_model.specs.Cost.{solution_cost};
 ghost use Rattle.routing_model.specs.Feasible.{is_feasible};
 ghost use Rattle.early_search.specs.ClientPlans.{IsClientPlan};
-ghost use Rattle.penalty_cost.specs.Totals.{IsWeighed};
+ghost use Rattle.penalty_cost.specs.Plans.{IsWeighed};
 ghost use Rattle.early_search.specs.Found.{cost_if_feasible};
 
 use penalty_cost::{assess, routes_cost, solution_cost};

@@ -24,6 +24,7 @@ pub fn lawful_plans_are_tested()
     ensures { LawfulIsTested }
 {}
 
+/// A vehicle whose list has no client costs nothing.
 pub fn unused_vehicle_costs_nothing()
     ensures { UnusedCostsNothing }
 {}
