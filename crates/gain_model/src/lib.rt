@@ -6,6 +6,7 @@ mod laws;
 mod part;
 
 pub use laws::{
-    bases_are_enough, kept_places_are_enough, passes_go_on, swaps_by_growth, taken_moves_change_lists,
+    bases_are_enough, kept_places_are_enough, passes_go_on, swaps_by_growth,
+    taken_moves_change_lists,
 };
 pub use part::{Part, Side};
