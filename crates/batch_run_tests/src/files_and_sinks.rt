@@ -1,6 +1,7 @@
 //! Tests of the files and sinks.
 use batch_run::{
-    Failed, Files, Folder, LoadFault, MemoryFiles, MemorySink, Nowhere, PlainFiles, Sink, StoreFault,
+    Failed, Files, Folder, LoadFault, MemoryFiles, MemorySink, Nowhere, PlainFiles, Sink,
+    StoreFault,
 };
 use std::test::Fail;
 
