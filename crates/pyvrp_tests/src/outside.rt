@@ -16,6 +16,17 @@ struct Timed<'a> {
     last: Option<u32>,
 }
 
+impl<'a> Timed<'a> {
+    /// A sink into which nothing was put.
+    fn new(clock: &'a Cell<u32>) -> Timed<'a> {
+        Timed {
+            clock,
+            first: None,
+            last: None,
+        }
+    }
+}
+
 impl Sink for Timed<'_> {
     ghost written = { λ _. None };
 
@@ -32,15 +43,6 @@ impl Sink for Timed<'_> {
     }
 }
 
-/// A sink with this clock.
-fn timed(clock: &Cell<u32>) -> Timed<'_> {
-    Timed {
-        clock,
-        first: None,
-        last: None,
-    }
-}
-
 /// A second load of the instance would fail, but none is made.
 #[test]
 fn loads_an_instance_once(rt: HostRuntime) -> Result<(), NoMemory> {
@@ -54,8 +56,8 @@ fn loads_an_instance_once(rt: HostRuntime) -> Result<(), NoMemory> {
 #[test]
 fn puts_errors_before_the_output(rt: HostRuntime) -> Result<(), Fail> {
     let clock = Cell::new(0);
-    let mut out = timed(&clock);
-    let mut err = timed(&clock);
+    let mut out = Timed::new(&clock);
+    let mut err = Timed::new(&clock);
     let mut files = MemoryFiles::new(rt.alloc(), Vec::new(rt.alloc()));
     let asked = words_for(rt.alloc(), "0", "three.vrp")?;
     let status = run_command(&rt, rt.alloc(), asked, &mut files, &mut out, &mut err);
