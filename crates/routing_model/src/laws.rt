@@ -1,4 +1,4 @@
-//! What the definitions say of themselves.
+//! Laws of the definitions, as contracts of calls that do nothing.
 ghost use Rattle.routing_model.specs.Laws.{BestDriveIsBest, BestDriveIsUnique, BestStaysFeasible, FeasibleCostsTheSame, FirstStartHasLeastWarp, LawfulIsTested, TidiedIsTidy, TidiedStays, TidyStays, UnusedCostsNothing};
 
 /// The best drive is one of the drives, with the least warp of all and the least duration among those.
