@@ -1,11 +1,11 @@
 //! What plans exceed.
 ghost use Rattle.std.specs.Prelude.{◌≡◌, ℕ, ◌+◌, ◌*◌, ◌^◌, ◌<◌, ◌≤◌, List, length, sum_by};
 ghost use Rattle.problem_data.specs.declared.visit.Visit.{Visit};
-ghost use Rattle.problem_data.specs.Places.{type_at, type_of, vehicle_count};
+ghost use Rattle.problem_data.specs.Places.{vehicle_count};
 ghost use Rattle.problem_data.specs.Reads.{RoseAtMost};
 ghost use Rattle.routing_model.specs.Feasible.{assessment, total_excess_distance, total_excess_load, total_excess_time};
 ghost use Rattle.penalty_cost.specs.inside.Excess.{IsExcessOf, IsExcessWithin, most_stops, stops_within};
-ghost use Rattle.routing_model.specs.Listed.{IsListed};
+ghost use Rattle.routing_model.specs.Listed.{IsListed, type_of_vehicle};
 ghost use Rattle.penalty_cost.specs.Plans.{IsDrivablePlan};
 
 use crate::totals::totals_of;
@@ -44,7 +44,7 @@ fn vehicle_excess(
 ) -> Excess
     requires vehicle { vehicle < vehicle_count given.now }
     requires listed { IsListed given.now visits.now }
-    ensures excess { IsExcessOf given.now (type_at given.now (type_of given.now vehicle)) visits.now result }
+    ensures excess { IsExcessOf given.now (type_of_vehicle given.now vehicle) visits.now result }
     ensures short { IsExcessWithin (stops_within visits.now) result }
     ensures reads { RoseAtMost (length visits.now + 1) reads.old reads.new }
 {
@@ -100,8 +100,8 @@ fn plan_excess(given: &ProblemData, routes: &[VisitList], reads: &mut Steps<Read
 /// with excess duration, and of their excess distances. The plan is feasible exactly where all are
 /// 0 and it is lawful.
 ///
-/// Conditions: there is one list for each vehicle, each names existing places, is tidy and has at
-/// most 2,079 visits, and no client stands twice. For each vehicle it reads at most one leg more
+/// Conditions: there is one list for each vehicle, each names existing places, is tidy and has no
+/// more visits than a vehicle can have, and no client stands twice. For each vehicle it reads at most one leg more
 /// than there are visits.
 pub fn assess(given: &ProblemData, solution: &Solution, reads: &mut Steps<Reads>) -> Assessment
     requires { IsDrivablePlan given.now solution.now.routes }

@@ -1,10 +1,10 @@
 //! What one vehicle costs.
 ghost use Rattle.std.specs.Prelude.{◌≡◌, ◌+◌, ◌-◌, ◌*◌, ◌<◌, ◌≤◌, length};
-ghost use Rattle.problem_data.specs.Places.{type_at, type_of, vehicle_count};
+ghost use Rattle.problem_data.specs.Places.{vehicle_count};
 ghost use Rattle.problem_data.specs.Reads.{RoseAtMost};
 ghost use Rattle.problem_data.specs.Valid.{IsValidType};
 ghost use Rattle.routing_model.specs.Cost.{excess_time, route_cost};
-ghost use Rattle.routing_model.specs.Listed.{IsListed};
+ghost use Rattle.routing_model.specs.Listed.{IsListed, type_of_vehicle};
 ghost use Rattle.segments.specs.Totals.{largest_total};
 ghost use Rattle.penalty_cost.specs.Plans.{IsWeighed, largest_weight};
 ghost use Rattle.penalty_cost.specs.inside.Totals.{AreShort, cost_of, drive_of, most_cost};
@@ -75,7 +75,7 @@ pub(crate) fn vehicle_cost(
     requires vehicle { vehicle < vehicle_count given.now }
     requires listed { IsListed given.now visits.now }
     requires weights { IsWeighed weights }
-    ensures value { result ≡ route_cost given.now weights (type_at given.now (type_of given.now vehicle)) visits.now }
+    ensures value { result ≡ route_cost given.now weights (type_of_vehicle given.now vehicle) visits.now }
     ensures short { result ≤ most_cost }
     ensures reads { RoseAtMost (length visits.now + 1) reads.old reads.new }
 {

@@ -4,3 +4,4 @@ pub mod Duration
 pub mod Laws
 pub mod Load
 pub mod Totals
+pub mod inside

@@ -27,7 +27,8 @@ impl DurationSegment {
     ghost use Rattle.std.specs.Prelude.{◌≡◌, ◌+◌, ◌≤◌, pos, ◌+ℤ◌, ◌-ℤ◌, ◌≤ℤ◌};
     ghost use Rattle.std.specs.Int.{int_max, int_min};
     ghost use Rattle.segment_model.specs.Span.{latest_moment, shift_of};
-    ghost use Rattle.segments.specs.Totals.{IsJoint, IsNear, IsShift, largest_total, latest_release};
+    ghost use Rattle.segments.specs.Totals.{IsJoint, largest_total, latest_release};
+    ghost use Rattle.segments.specs.inside.Moments.{IsNear, IsShift};
     ghost use Rattle.segments.specs.Duration.{span_of, IsDriveOf, IsLeastDurationOf, IsLeastWarpOf, IsSoundDuration, IsWithinDuration, Releases, StandsForStop, at_start_of, released_from};
 
     /// The segment of one stop, which is served for `service` from `early` to `late`.

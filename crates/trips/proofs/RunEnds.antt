@@ -1,7 +1,5 @@
 -- Where runs are left and reached.
-use Rattle.std.proofs.Common.{◌≡◌, Bool, true, false, List, [], ◌∷◌, ◌++◌, refl, ap, sym, subst, ◌∙◌, Some, None}
-use Rattle.problem_data.specs.declared.problem.Problem.{Problem}
-use Rattle.problem_data.specs.declared.problem.VehicleType.{VehicleType}
+use Rattle.std.proofs.Common.{◌≡◌, Bool, false, List, [], ◌∷◌, ◌++◌, refl, ap, sym, subst, Some, None}
 use Rattle.problem_data.specs.declared.visit.Visit.{Visit}
 use Rattle.problem_data.specs.Visits.{place_of}
 use Rattle.trips.specs.Joints.{first_visit, last_visit}

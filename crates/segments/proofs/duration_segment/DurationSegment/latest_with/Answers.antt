@@ -1,7 +1,7 @@
 use Rattle.std.proofs.Common.{arith}
 use Rattle.std.proofs.lemmas.Int.{ints, clamps}
 use Rattle.segments.specs.Duration.{IsSoundDuration}
-use Rattle.segments.specs.Totals.{IsShift}
+use Rattle.segments.specs.inside.Moments.{IsShift}
 use Rattle.segments.proofs.duration_segment.DurationSegment.latest_with.Goals as goal
 
 pub returns-clause-value : goal.returns-clause-value
