@@ -4,16 +4,16 @@ use Rattle.std.specs.Str.Lines.{lines}
 use Rattle.problem_data.specs.declared.problem.Problem.{Problem}
 use Rattle.vrp_num.specs.declared.rounding.Rounding.{Rounding}
 use Rattle.vrplib_read.specs.declared.reading.Reading.{Reading}
-use Rattle.vrplib_read.specs.declared.refusal.Refusal.{Refusal}
-use Rattle.vrplib_read.specs.declared.rule.Rule.{Rule}
-use Rattle.vrplib_read.specs.LineKinds.{Line}
-use Rattle.vrplib_read.specs.Meaning.{problem_of}
-use Rattle.vrplib_read.specs.OfText.{OfText}
+use Rattle.vrplib_model.specs.declared.refusal.Refusal.{Refusal}
+use Rattle.vrplib_model.specs.declared.rule.Rule.{Rule}
+use Rattle.vrplib_model.specs.LineKinds.{Line}
+use Rattle.vrplib_model.specs.Meaning.{problem_of}
+use Rattle.vrplib_read.specs.inside.OfText.{OfText}
 use Rattle.vrplib_read.specs.Outcomes.{IsReading}
-use Rattle.vrplib_read.specs.Reading.{first_fault, lines_onto, read}
-use Rattle.vrplib_read.specs.Stands.{Stands}
-use Rattle.vrplib_read.specs.WholeText.{whole_fault}
-use Rattle.vrplib_read.proofs.Accepted.{accepted-valid}
+use Rattle.vrplib_model.specs.Reading.{first_fault, lines_onto, read}
+use Rattle.vrplib_read.specs.inside.Stands.{Stands}
+use Rattle.vrplib_model.specs.WholeText.{whole_fault}
+use Rattle.vrplib_model.proofs.Accepted.{accepted-valid}
 
 -- the lines that are read of a text
 abbrev lines_read : List ℕ → List Line

@@ -3,15 +3,15 @@ use Rattle.std.proofs.Common.{◌≡◌, ℕ, ◌+◌, true, false, List, [], �
 use Rattle.std.specs.Prelude.{if◌then◌else◌, option_map}
 use Rattle.vrp_num.specs.declared.rounding.Rounding.{Rounding}
 use Rattle.vrplib_read.specs.declared.reading.Reading.{Reading}
-use Rattle.vrplib_read.specs.declared.rule.Rule.{Rule}
-use Rattle.vrplib_read.specs.declared.rule.Rule.TheVariants.{RowCount}
-use Rattle.vrplib_read.specs.Checks.{broken_if}
-use Rattle.vrplib_read.specs.Faults.{fault_of}
-use Rattle.vrplib_read.specs.LineKinds.{Line, line_of, is_end}
-use Rattle.vrplib_read.specs.Reading.{first_fault, lines_onto, refusal_if}
-use Rattle.vrplib_read.specs.Stands.{Stands}
-use Rattle.vrplib_read.specs.Steps.{JudgesText}
-use Rattle.vrplib_read.specs.WordFaults.{is_short}
+use Rattle.vrplib_model.specs.declared.rule.Rule.{Rule}
+use Rattle.vrplib_model.specs.declared.rule.Rule.TheVariants.{RowCount}
+use Rattle.vrplib_model.specs.Checks.{broken_if}
+use Rattle.vrplib_model.specs.Faults.{fault_of}
+use Rattle.vrplib_model.specs.LineKinds.{Line, line_of, is_end}
+use Rattle.vrplib_model.specs.Reading.{first_fault, lines_onto, refusal_if}
+use Rattle.vrplib_read.specs.inside.Stands.{Stands}
+use Rattle.vrplib_read.specs.inside.Steps.{JudgesText}
+use Rattle.vrplib_model.specs.WordFaults.{is_short}
 
 -- some lines have been read without a fault, and these are left; the next one has this number
 pub record Reads (mode : Rounding) (all rest : List (List ℕ)) (number : ℕ) (r : Reading) : Type 0 where

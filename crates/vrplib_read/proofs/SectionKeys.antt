@@ -3,7 +3,7 @@ use Rattle.std.proofs.Common.{◌≡◌, Bool, refl, List, [], ◌∷◌}
 use Rattle.std.specs.Map.{lookup}
 use denote.Enum.Bare.{sameb}
 use Rattle.vrplib_read.specs.contracts.section.Section.{the_type}
-use Rattle.vrplib_read.specs.Sections.{Section, same_section, node_coord_section, demand_section, backhaul_section, time_window_section, service_time_section, release_time_section, prize_section, edge_weight_section, depot_section, group_section, profile_section, vehicle_types_section}
+use Rattle.vrplib_model.specs.Sections.{Section, same_section, node_coord_section, demand_section, backhaul_section, time_window_section, service_time_section, release_time_section, prize_section, edge_weight_section, depot_section, group_section, profile_section, vehicle_types_section}
 
 pub same_test : (s t : Section) → sameb the_type s t ≡ same_section s t
 same_test node_coord_section node_coord_section = refl

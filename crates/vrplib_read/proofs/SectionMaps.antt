@@ -5,9 +5,9 @@ use Rattle.std.specs.Option.{ForSome}
 use Rattle.std.specs.Map.{lookup}
 use denote.Enum.Bare.{sameb}
 use Rattle.vrplib_read.specs.contracts.section.Section.{the_type}
-use Rattle.vrplib_read.specs.Sections.{Section, same_section}
-use Rattle.vrplib_read.specs.Kept.{Listed}
-use Rattle.vrplib_read.specs.Steps.{kind_of}
+use Rattle.vrplib_model.specs.Sections.{Section, same_section}
+use Rattle.vrplib_rows.specs.KeptRows.{Listed}
+use Rattle.vrplib_read.specs.inside.Steps.{kind_of}
 use Rattle.vrplib_read.proofs.ReadingLaws.{same_section-true}
 use Rattle.vrplib_read.proofs.SectionKeys.{same_test, same_lookup}
 

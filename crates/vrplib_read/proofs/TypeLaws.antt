@@ -1,8 +1,8 @@
 -- What the rows of vehicle types are.
 use Rattle.std.proofs.Common.{◌≡◌, ℕ, ◌≤◌, List, ℤ, drop, subst}
-use Rattle.vrplib_read.specs.Sections.{Section, vehicle_types_section}
-use Rattle.vrplib_read.specs.Numbers.{int_at}
-use Rattle.vrplib_read.specs.Kept.{IsRow, IsTypeRow}
+use Rattle.vrplib_model.specs.Sections.{Section, vehicle_types_section}
+use Rattle.vrplib_model.specs.Numbers.{int_at}
+use Rattle.vrplib_model.specs.inside.FaultlessRows.{IsRow, IsTypeRow}
 use Rattle.vrplib_read.proofs.GroupLaws.{wider, all_wider}
 
 wider_row : (n : ℕ) (row : List ℤ) → n ≤ 2048 → IsTypeRow n row → IsTypeRow 2048 row

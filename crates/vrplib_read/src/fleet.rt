@@ -1,21 +1,21 @@
 //! The vehicle types that a text gives.
 ghost use Rattle.std.specs.Prelude.{◌≡◌, ◌+◌, ◌<◌, IfOk, drop, map};
 ghost use Rattle.std.specs.List.{list_all};
-ghost use Rattle.vrplib_read.specs.Rows.{nodes_of};
-ghost use Rattle.vrplib_read.specs.Entries.{client_count, place_of};
-ghost use Rattle.vrplib_read.specs.Fleet.{only_type, type_of_row, types};
-ghost use Rattle.vrplib_read.specs.Kept.{IsBetween, IsTypeRow};
-ghost use Rattle.vrplib_read.specs.Numbers.{int_at, number_at};
-ghost use Rattle.vrplib_read.specs.OfText.{OfText, known_nodes};
-ghost use Rattle.vrplib_read.specs.WholeText.{are_apart, has_missed_shift, has_wrong_reference, is_depot_place};
+ghost use Rattle.vrplib_model.specs.Rows.{nodes_of};
+ghost use Rattle.vrplib_model.specs.Entries.{client_count, place_of};
+ghost use Rattle.vrplib_model.specs.Fleet.{only_type, type_of_row, types};
+ghost use Rattle.vrplib_model.specs.inside.FaultlessRows.{IsBetween, IsTypeRow};
+ghost use Rattle.vrplib_model.specs.Numbers.{int_at, number_at};
+ghost use Rattle.vrplib_read.specs.inside.OfText.{OfText, known_nodes};
+ghost use Rattle.vrplib_model.specs.WholeText.{are_apart, has_missed_shift, has_wrong_reference, is_depot_place};
 
 use crate::entries::{number_at, window};
 use crate::groups::places_of;
 use crate::reading::Reading;
-use crate::rows::Rows;
-use crate::section::Section;
 use problem_data::{PlaceList, VehicleType, Window};
 use std::alloc::{AllocError, Global};
+use vrplib_model::Section;
+use vrplib_rows::Rows;
 
 /// The largest quantity.
 const LARGEST: u64 = 1_000_000_000_000;
@@ -89,10 +89,10 @@ fn only_type(alloc: Global, reading: &Reading, clients: u32) -> VehicleType
     requires { OfText reading.now (λ all. client_count reading.now.mode all ≡ clients) }
     ensures { OfText reading.now (λ all. result ≡ only_type reading.now.mode all) }
 {
-    let words = &reading.words;
+    let keywords = &reading.keywords;
     VehicleType {
-        count: words.vehicles.unwrap_or(clients),
-        capacity: words.capacity.unwrap_or(LARGEST),
+        count: keywords.vehicles.unwrap_or(clients),
+        capacity: keywords.capacity.unwrap_or(LARGEST),
         start: 0,
         end: 0,
         fixed: 0,
@@ -102,8 +102,8 @@ fn only_type(alloc: Global, reading: &Reading, clients: u32) -> VehicleType
             early: 0,
             late: LARGEST,
         },
-        max_duration: words.max_duration.unwrap_or(UNLIMITED),
-        max_distance: words.max_distance.unwrap_or(UNLIMITED),
+        max_duration: keywords.max_duration.unwrap_or(UNLIMITED),
+        max_distance: keywords.max_distance.unwrap_or(UNLIMITED),
         profile: 0,
         reloads: 0,
         reload_depots: PlaceList::from_vec(Vec::new(alloc)),

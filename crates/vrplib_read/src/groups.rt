@@ -1,17 +1,17 @@
 //! The groups of clients of which one is visited.
 ghost use Rattle.std.specs.Prelude.{◌≡◌, ◌≤◌, ◌==◌, All, IfOk, drop, length, map, nat_abs, position};
 ghost use Rattle.std.specs.List.{list_any};
-ghost use Rattle.vrplib_read.specs.Rows.{nodes_of};
-ghost use Rattle.vrplib_read.specs.Entries.{place_of};
-ghost use Rattle.vrplib_read.specs.Kept.{IsBetween};
-ghost use Rattle.vrplib_read.specs.Meaning.{groups, group_of};
-ghost use Rattle.vrplib_read.specs.OfText.{OfText, known_nodes, group_places};
+ghost use Rattle.vrplib_model.specs.Rows.{nodes_of};
+ghost use Rattle.vrplib_model.specs.Entries.{place_of};
+ghost use Rattle.vrplib_model.specs.inside.FaultlessRows.{IsBetween};
+ghost use Rattle.vrplib_model.specs.Meaning.{groups, group_of};
+ghost use Rattle.vrplib_read.specs.inside.OfText.{OfText, known_nodes, group_places};
 
 use crate::reading::Reading;
-use crate::rows::Rows;
-use crate::section::Section;
 use problem_data::PlaceList;
 use std::alloc::{AllocError, Global};
+use vrplib_model::Section;
+use vrplib_rows::Rows;
 
 /// The places of nodes.
 pub(crate) fn places_of(alloc: Global, nodes: &[i64]) -> Result<Vec<u32>, AllocError>

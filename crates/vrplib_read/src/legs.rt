@@ -2,21 +2,20 @@
 ghost use Rattle.std.specs.Prelude.{◌≡◌, ◌≢◌, ◌*◌, ◌^◌, ◌≤◌, ◌<◌, ◌++◌, All, IfOk, OnOk, true, false, length, map};
 ghost use Rattle.std.specs.List.{flat_map};
 ghost use Rattle.problem_data.specs.Valid.{IsValidPlace};
-ghost use Rattle.vrplib_read.specs.Entries.{coordinates, counted, nodes};
-ghost use Rattle.vrplib_read.specs.Kept.{IsBetween};
-ghost use Rattle.vrplib_read.specs.Numbers.{number_at};
-ghost use Rattle.vrplib_read.specs.Values.{is_explicit};
-ghost use Rattle.vrplib_read.specs.Legs.{base_leg, full_place, lower_place, upper_place};
-ghost use Rattle.vrplib_read.specs.OfText.{OfText, known_nodes, known_weights, place_by, place_leg, weight_leg};
+ghost use Rattle.vrplib_model.specs.Entries.{coordinates, counted, nodes};
+ghost use Rattle.vrplib_model.specs.inside.FaultlessRows.{IsBetween};
+ghost use Rattle.vrplib_model.specs.Numbers.{number_at};
+ghost use Rattle.vrplib_model.specs.Values.{is_explicit};
+ghost use Rattle.vrplib_model.specs.Legs.{base_leg, full_place, lower_place, upper_place};
+ghost use Rattle.vrplib_read.specs.inside.OfText.{OfText, known_nodes, known_weights, place_by, place_leg, weight_leg};
 
 use crate::entries::{node_count, number_at};
 use crate::reading::Reading;
-use crate::rows::Rows;
-use crate::section::Section;
-use crate::words::{WeightFormat, WeightType};
 use problem_data::Place;
 use std::alloc::{AllocError, Global};
-use vrp_num::{Rounding, euclid};
+use vrp_num::{euclid, Rounding};
+use vrplib_model::Section;
+use vrplib_rows::{Rows, WeightFormat, WeightType};
 
 /// The distance of two places.
 fn place_leg(mode: Rounding, a: &Place, b: &Place) -> u32
@@ -194,7 +193,7 @@ fn explicit_legs(alloc: Global, reading: &Reading) -> Result<Vec<u32>, AllocErro
 {
     weight_legs(
         alloc,
-        reading.words.weight_format,
+        reading.keywords.weight_format,
         node_count(reading),
         weights(reading),
     )
@@ -221,7 +220,7 @@ fn euclidean_legs(
 fn is_explicit(reading: &Reading) -> bool
     ensures { OfText reading.now (λ all. result ≡ is_explicit all) }
 {
-    match reading.words.weight_type {
+    match reading.keywords.weight_type {
         Some(WeightType::Explicit) => true,
         _ => false,
     }

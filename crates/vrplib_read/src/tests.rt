@@ -1,4 +1,4 @@
-use crate::{Key, ReadFault, Refusal, Rule, read_instance};
+use crate::{read_instance, Key, ReadFault, Refusal, Rule};
 use problem_data::Problem;
 use std::alloc::{AllocError, Global};
 use std::test::Fail;

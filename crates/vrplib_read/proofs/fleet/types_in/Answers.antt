@@ -1,6 +1,6 @@
 use Rattle.std.proofs.Common.{arith}
 use Rattle.std.proofs.lemmas.Grind.{common_steps}
-use Rattle.vrplib_read.specs.Fleet.{type_of_row}
+use Rattle.vrplib_model.specs.Fleet.{type_of_row}
 use Rattle.vrplib_read.proofs.RowLaws.{map_taken}
 use Rattle.vrplib_read.proofs.TypeLaws.{type_row}
 use Rattle.vrplib_read.proofs.fleet.types_in.Goals as goal

@@ -1,7 +1,7 @@
 use Rattle.std.proofs.Common.{◌≡◌, false, take}
 use Rattle.std.specs.List.{list_any}
-use Rattle.vrplib_read.specs.OfText.{OfText}
-use Rattle.vrplib_read.specs.WholeText.{has_missed_shift}
+use Rattle.vrplib_read.specs.inside.OfText.{OfText}
+use Rattle.vrplib_model.specs.WholeText.{has_missed_shift}
 use Rattle.vrplib_read.proofs.whole.has_empty_window.Given as goal
 
 abbrev pub invariant-loop-kind : goal.invariant-loop-kind
