@@ -1,6 +1,7 @@
 -- What a text says of each node: the entry in the row of that node, in the section that gives it.
 use Rattle.std.specs.Prelude.{ℕ, zero, suc, ◌+◌, ◌-◌, ◌^◌, ◌==◌, if◌then◌else◌, List, [], ◌∷◌, length, find, ℤ, pos, Option, unwrap_or}
 use Rattle.std.specs.Option.{option_map_or}
+use Rattle.problem_data.specs.Limits.{largest}
 use Rattle.problem_data.specs.declared.problem.Window.{Window}
 use Rattle.problem_data.specs.declared.problem.Place.{Place}
 use Rattle.vrp_num.specs.declared.rounding.Rounding.{Rounding}
@@ -79,7 +80,7 @@ prize mode lines node = entry mode prize_section 1 0 lines node
 abbrev pub window : Rounding → List Line → ℕ → Window
 window mode lines node = record {
   early = entry mode time_window_section 1 0 lines node;
-  late = entry mode time_window_section 2 (10 ^ 12) lines node;
+  late = entry mode time_window_section 2 largest lines node;
 }
 
 -- the service of a depot, which is 0 where the section doesn't give it

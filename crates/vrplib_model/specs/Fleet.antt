@@ -1,5 +1,6 @@
 -- The vehicle types that a text gives.
 use Rattle.std.specs.Prelude.{ℕ, ◌-◌, ◌^◌, if◌then◌else◌, List, [], ◌∷◌, map, drop, ℤ, unwrap_or}
+use Rattle.problem_data.specs.Limits.{largest, unlimited}
 use Rattle.problem_data.specs.declared.problem.Window.{Window}
 use Rattle.problem_data.specs.declared.problem.VehicleType.{VehicleType}
 use Rattle.vrp_num.specs.declared.rounding.Rounding.{Rounding}
@@ -13,7 +14,7 @@ use Rattle.vrplib_model.specs.Entries.{place_of, client_count}
 
 -- the window that is never shut
 abbrev pub always : Window
-always = record { early = 0; late = 10 ^ 12 }
+always = record { early = 0; late = largest }
 
 -- the vehicle type that a row gives
 abbrev pub type_of_row : List ℤ → VehicleType
@@ -44,8 +45,8 @@ plain_type vehicle_count load = record {
   unit_distance = 1;
   unit_duration = 0;
   shift = always;
-  max_duration = 10 ^ 18;
-  max_distance = 10 ^ 18;
+  max_duration = unlimited;
+  max_distance = unlimited;
   profile = 0;
   reloads = 0;
   reload_depots = [];
@@ -55,9 +56,9 @@ plain_type vehicle_count load = record {
 abbrev pub only_type : Rounding → List Line → VehicleType
 only_type mode lines =
     record (plain_type (unwrap_or (keyword_number mode vehicles lines) (client_count mode lines))
-    (unwrap_or (keyword_number mode capacity lines) (10 ^ 12))) {
-      max_duration = unwrap_or (keyword_number mode max_duration lines) (10 ^ 18);
-      max_distance = unwrap_or (keyword_number mode max_distance lines) (10 ^ 18);
+    (unwrap_or (keyword_number mode capacity lines) largest)) {
+      max_duration = unwrap_or (keyword_number mode max_duration lines) unlimited;
+      max_distance = unwrap_or (keyword_number mode max_distance lines) unlimited;
     }
 
 -- the vehicle types

@@ -1,5 +1,6 @@
 -- The numbers in a row or value: what each must be, and the rule that it breaks else.
 use Rattle.std.specs.Prelude.{ℕ, zero, suc, ◌/◌, ◌%◌, ◌^◌, ◌≤◌, Bool, false, not, ◌&&◌, ◌||◌, ◌==◌, nat_le, if◌then◌else◌, List, [], ◌∷◌, ℤ, pos, negsuc, nat_abs, Option, Some, None, Result, Ok, Err}
+use Rattle.problem_data.specs.Limits.{largest, unlimited}
 use Rattle.vrp_num.specs.declared.rounding.Rounding.{Rounding}
 use Rattle.vrp_num.specs.declared.decimal.Decimal.{Decimal}
 use Rattle.vrp_num.specs.declared.decimal.NumberFault.{NumberFault}
@@ -83,17 +84,17 @@ held_value mode (between low high) z = at_least_zero z |> as_whole |> checked Li
 held_value mode (rounding limit) z = at_least_zero z |> (λ micro. at_most limit (rounded mode micro)) |> as_number
 held_value mode (rounding_or limit other) z =
     if is_minus_one z then as_number other else (at_least_zero z |> (λ micro. at_most limit (rounded mode micro)) |> as_number)
-held_value mode coordinate z = if nat_le (nat_abs z) (10 ^ 12) then Ok z else Err Limit
+held_value mode coordinate z = if nat_le (nat_abs z) largest then Ok z else Err Limit
 held_value mode node_or_end z = if is_minus_one z then Ok (negsuc 0) else (at_least_zero z |> as_whole |> as_number)
 
 -- a token's number in a field, or the rule that it breaks
 unfoldable pub field_value : Rounding → Field → List ℕ → Result ℤ Rule
 field_value mode field token = number_in field token |> held_value mode field
 
--- the numbers that a field of rounded numbers may hold fit 64 bits with a sign
+-- the numbers that a field of rounded numbers may hold are at most what stands for no maximum, so they fit 64 bits with a sign
 abbrev pub IsHeldField : Field → Type 0
-IsHeldField (rounding limit) = limit ≤ 10 ^ 18
-IsHeldField (rounding_or limit other) = (limit ≤ 10 ^ 18) × (other ≤ 10 ^ 18)
+IsHeldField (rounding limit) = limit ≤ unlimited
+IsHeldField (rounding_or limit other) = (limit ≤ unlimited) × (other ≤ unlimited)
 IsHeldField _ = Unit {0}
 
 -- the numbers of a row's tokens in its fields, each or the rule that it breaks

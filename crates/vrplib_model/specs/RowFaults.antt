@@ -1,5 +1,6 @@
 -- Checks of a section's row, by the lines before it, which are given the nearest first.
 use Rattle.std.specs.Prelude.{ℕ, ◌+◌, Bool, true, false, not, ◌&&◌, ◌||◌, ◌==◌, nat_lt, nat_le, List, [], ◌∷◌, ◌++◌, length, drop, flat_map, ℤ, Option, None}
+use Rattle.problem_data.specs.Limits.{most_groups, most_profiles, most_types}
 use Rattle.vrp_num.specs.declared.rounding.Rounding.{Rounding}
 use Rattle.vrplib_model.specs.declared.rule.Rule.{Rule}
 use Rattle.vrplib_model.specs.declared.rule.Rule.TheVariants.{RowCount, BadNode, Limit, EmptyWindow, BadVehicle, BadGroup}
@@ -32,9 +33,9 @@ has_right_length s tokens = length tokens == 2
 abbrev pub excess : Section → List (List ℕ) → ℕ → ℕ → List (List ℤ) → Option Rule
 excess edge_weight_section tokens nodes weights rows = broken_if (nat_lt weights (length (flat_map (λ numbers. numbers) rows) + length tokens)) RowCount
 excess depot_section tokens nodes weights rows = None
-excess group_section tokens nodes weights rows = broken_if (nat_le 1024 (length rows)) Limit
-excess profile_section tokens nodes weights rows = broken_if (nat_le 4 (length rows)) Limit
-excess vehicle_types_section tokens nodes weights rows = broken_if (nat_le 64 (length rows)) Limit
+excess group_section tokens nodes weights rows = broken_if (nat_le most_groups (length rows)) Limit
+excess profile_section tokens nodes weights rows = broken_if (nat_le most_profiles (length rows)) Limit
+excess vehicle_types_section tokens nodes weights rows = broken_if (nat_le most_types (length rows)) Limit
 excess s tokens nodes weights rows = broken_if (nat_le nodes (length rows)) RowCount
 
 -- the nodes that a row of the section names, of the n nodes

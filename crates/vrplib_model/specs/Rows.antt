@@ -1,6 +1,7 @@
 -- The rows of each section in the lines read so far, which are given the nearest first.
 use Rattle.std.specs.Prelude.{ℕ, ◌+◌, ◌-◌, ◌*◌, ◌^◌, Bool, false, if◌then◌else◌, List, [], ◌∷◌, ◌++◌, length, sum_by, replicate, flat_map, ℤ, pos, negsuc, Option, Some, None, bytes_eq}
 use Rattle.std.specs.List.{list_any}
+use Rattle.problem_data.specs.Limits.{largest, largest_leg, largest_unit_cost, most_profiles, most_reloads, most_vehicles, unlimited}
 use Rattle.vrp_num.specs.declared.rounding.Rounding.{Rounding}
 pub use Rattle.vrplib_model.specs.declared.position.Position.{Position}
 pub use Rattle.vrplib_model.specs.declared.position.Position.TheVariants.{Outside as outside, PassedOver as passed_over, Within as within}
@@ -41,25 +42,25 @@ vehicle_count rows = sum_by (number_at 1) rows
 -- the fields of a section's row, given the rows before it and how many tokens it has
 abbrev pub fields : Section → List (List ℤ) → ℕ → List Field
 fields node_coord_section before n = number ∷ coordinate ∷ coordinate ∷ []
-fields demand_section before n = number ∷ whole (10 ^ 12) ∷ []
-fields backhaul_section before n = number ∷ whole (10 ^ 12) ∷ []
-fields time_window_section before n = number ∷ rounding (10 ^ 12) ∷ rounding (10 ^ 12) ∷ []
-fields service_time_section before n = number ∷ rounding (10 ^ 12) ∷ []
-fields release_time_section before n = number ∷ rounding (10 ^ 12) ∷ []
-fields prize_section before n = number ∷ rounding (10 ^ 12) ∷ []
-fields edge_weight_section before n = replicate n (rounding (4 * 10 ^ 9))
+fields demand_section before n = number ∷ whole largest ∷ []
+fields backhaul_section before n = number ∷ whole largest ∷ []
+fields time_window_section before n = number ∷ rounding largest ∷ rounding largest ∷ []
+fields service_time_section before n = number ∷ rounding largest ∷ []
+fields release_time_section before n = number ∷ rounding largest ∷ []
+fields prize_section before n = number ∷ rounding largest ∷ []
+fields edge_weight_section before n = replicate n (rounding largest_leg)
 fields depot_section before n = replicate n node_or_end
 fields group_section before n = replicate n number
 fields profile_section before n = exactly (length before + 1) ∷ whole 10000 ∷ whole 10000 ∷ []
 fields vehicle_types_section before n =
     -- type, count, capacity, start, end
-    number ∷ between 1 (2048 - vehicle_count before) ∷ whole (10 ^ 12) ∷ number ∷ number
+    number ∷ between 1 (most_vehicles - vehicle_count before) ∷ whole largest ∷ number ∷ number
     -- fixed, unit_distance, unit_duration
-    ∷ rounding (10 ^ 12) ∷ whole (10 ^ 6) ∷ whole (10 ^ 6)
+    ∷ rounding largest ∷ whole largest_unit_cost ∷ whole largest_unit_cost
     -- early, late, max_duration, max_distance
-    ∷ rounding (10 ^ 12) ∷ rounding_or (10 ^ 12) (10 ^ 12) ∷ rounding_or (10 ^ 12) (10 ^ 18) ∷ rounding_or (10 ^ 12) (10 ^ 18)
+    ∷ rounding largest ∷ rounding_or largest largest ∷ rounding_or largest unlimited ∷ rounding_or largest unlimited
     -- profile, reloads, and the nodes of reload depots
-    ∷ between 1 4 ∷ whole 32 ∷ replicate (n - 14) number
+    ∷ between 1 most_profiles ∷ whole most_reloads ∷ replicate (n - 14) number
 
 -- the numbers of a row
 abbrev pub row_numbers : Rounding → Section → List (List ℤ) → List (List ℕ) → List ℤ

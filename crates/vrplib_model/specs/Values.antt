@@ -1,5 +1,6 @@
 -- The values of keywords in the lines read so far, which are given the nearest first.
 use Rattle.std.specs.Prelude.{ℕ, ◌^◌, Bool, false, if◌then◌else◌, List, [], ◌∷◌, ℤ, nat_abs, Option, Some, None, Result, Ok, Err, is_some, option_map, option_and_then, unwrap_or, codes, bytes_eq}
+use Rattle.problem_data.specs.Limits.{largest, most_places, most_vehicles}
 use Rattle.vrp_num.specs.declared.rounding.Rounding.{Rounding}
 use Rattle.vrplib_model.specs.declared.rule.Rule.{Rule}
 use Rattle.vrplib_model.specs.declared.rule.Rule.TheVariants.{BadNumber}
@@ -9,14 +10,14 @@ use Rattle.vrplib_model.specs.Numbers.{Field, whole, between, rounding, field_va
 
 -- what the value of a keyword must be, where it is a number
 abbrev pub keyword_field : Keyword → Option Field
-keyword_field dimension = Some (between 2 2048)
+keyword_field dimension = Some (between 2 most_places)
 keyword_field edge_weight_type = None
 keyword_field edge_weight_format = None
-keyword_field capacity = Some (whole (10 ^ 12))
-keyword_field vehicles = Some (between 1 2048)
-keyword_field service_time = Some (rounding (10 ^ 12))
-keyword_field max_duration = Some (rounding (10 ^ 12))
-keyword_field max_distance = Some (rounding (10 ^ 12))
+keyword_field capacity = Some (whole largest)
+keyword_field vehicles = Some (between 1 most_vehicles)
+keyword_field service_time = Some (rounding largest)
+keyword_field max_duration = Some (rounding largest)
+keyword_field max_distance = Some (rounding largest)
 
 -- the rule that a number breaks, if any
 abbrev pub rule_of : Result ℤ Rule → Option Rule

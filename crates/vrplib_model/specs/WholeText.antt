@@ -1,6 +1,7 @@
 -- The faults of a text as a whole, where no line is faulty. The lines are given the nearest to the end first.
 use Rattle.std.specs.Prelude.{ℕ, ◌+◌, ◌*◌, ◌^◌, Bool, not, ◌&&◌, ◌||◌, nat_lt, nat_le, max, min, List, [], ◌∷◌, length, Option, bytes_eq}
 use Rattle.std.specs.List.{list_any, list_all}
+use Rattle.problem_data.specs.Limits.{largest, largest_leg}
 use Rattle.problem_data.specs.declared.problem.Window.{Window}
 use Rattle.problem_data.specs.declared.problem.VehicleType.{VehicleType}
 use Rattle.problem_data.specs.declared.problem.Profile.{Profile}
@@ -58,9 +59,9 @@ abbrev pub has_missed_shift : Rounding → List Line → VehicleType → Bool
 has_missed_shift mode lines t =
     are_apart t.shift (window mode lines (t.start + 1)) || are_apart t.shift (window mode lines (t.end + 1))
 
--- a leg above 4,000,000,000
+-- a leg above the largest
 abbrev pub has_long_leg : Profile → Bool
-has_long_leg p = list_any (λ leg. nat_lt (4 * 10 ^ 9) leg) p.distances.entries || list_any (λ leg. nat_lt (4 * 10 ^ 9) leg) p.durations.entries
+has_long_leg p = list_any (λ leg. nat_lt largest_leg leg) p.distances.entries || list_any (λ leg. nat_lt largest_leg leg) p.durations.entries
 
 -- the first check that the text as a whole fails
 unfoldable pub whole_fault : Rounding → List Line → Option Rule

@@ -1,4 +1,5 @@
 //! What a token must be.
+
 /// What a token of a row or value must be.
 #[derive(Clone, Copy, Debug, PartialEq, Eq)]
 pub enum Field {

@@ -1,4 +1,5 @@
 //! Where a line stands.
+
 use crate::section::Section;
 
 /// Where a line stands.

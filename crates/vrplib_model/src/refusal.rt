@@ -1,4 +1,5 @@
 //! Why a text is refused.
+
 use crate::rule::Rule;
 
 /// Why a text is refused: its first faulty line, and the first rule that this line breaks.

@@ -5,7 +5,8 @@ use Rattle.std.specs.List.{All, position, list_any}
 use Rattle.std.proofs.lemmas.Bool.Decides.{nat_tests}
 use Rattle.std.proofs.lemmas.Int.{ints}
 use Rattle.std.proofs.lemmas.List.Elements.{All-head, All-tail}
-use Rattle.vrplib_model.specs.Sections.{Section, group_section}
+use Rattle.vrplib_model.specs.declared.section.Section.{Section}
+use Rattle.vrplib_model.specs.declared.section.Section.TheVariants.{Group as group_section}
 use Rattle.vrplib_model.specs.Rows.{nodes_of}
 use Rattle.vrplib_model.specs.Entries.{place_of}
 use Rattle.vrplib_model.specs.Checks.{contains}

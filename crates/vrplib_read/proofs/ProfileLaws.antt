@@ -10,7 +10,9 @@ use Rattle.std.proofs.lemmas.List.Folds.{list_any-append, list_any_at}
 use Rattle.std.proofs.lemmas.Option.{slice_get_within, get_or_from_slice_get}
 use Rattle.vrp_num.specs.declared.rounding.Rounding.{Rounding}
 use Rattle.vrplib_read.specs.declared.reading.Reading.{Reading}
-use Rattle.vrplib_model.specs.Sections.{Section, same_section, profile_section}
+use Rattle.vrplib_model.specs.declared.section.Section.{Section}
+use Rattle.vrplib_model.specs.declared.section.Section.TheVariants.{Profile as profile_section}
+use Rattle.vrplib_model.specs.Sections.{same_section}
 use Rattle.vrplib_model.specs.LineKinds.{Line}
 use Rattle.vrplib_model.specs.Numbers.{number_at}
 use Rattle.vrplib_model.specs.Values.{node_count}

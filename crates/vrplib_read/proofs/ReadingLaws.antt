@@ -14,8 +14,12 @@ use Rattle.vrplib_model.specs.Keywords.{is_of_vehicles}
 use Rattle.vrplib_model.specs.LineKinds.{Line, empty, end_of_file, section_line, keyword_line, word_line, row, line_of}
 use Rattle.vrplib_model.specs.Numbers.{is_minus_one_token}
 use Rattle.vrplib_model.specs.RowFaults.{fault_of_row, row_fault}
-use Rattle.vrplib_model.specs.Rows.{Position, outside, passed_over, within, next_position, after_row, opened, row_numbers, rows_of, numbers_of, has_section}
-use Rattle.vrplib_model.specs.Sections.{Section, section_name, section_of, sections, same_section, node_coord_section, demand_section, backhaul_section, time_window_section, service_time_section, release_time_section, prize_section, edge_weight_section, depot_section, group_section, profile_section, vehicle_types_section}
+use Rattle.vrplib_model.specs.declared.position.Position.{Position}
+use Rattle.vrplib_model.specs.declared.position.Position.TheVariants.{Outside as outside, PassedOver as passed_over, Within as within}
+use Rattle.vrplib_model.specs.Rows.{next_position, after_row, opened, row_numbers, rows_of, numbers_of, has_section}
+use Rattle.vrplib_model.specs.declared.section.Section.{Section}
+use Rattle.vrplib_model.specs.declared.section.Section.TheVariants.{NodeCoord as node_coord_section, Demand as demand_section, Backhaul as backhaul_section, TimeWindow as time_window_section, ServiceTime as service_time_section, ReleaseTime as release_time_section, Prize as prize_section, EdgeWeight as edge_weight_section, Depot as depot_section, Group as group_section, Profile as profile_section, VehicleTypes as vehicle_types_section}
+use Rattle.vrplib_model.specs.Sections.{section_name, section_of, sections, same_section}
 use Rattle.vrplib_model.specs.Values.{node_count}
 use Rattle.vrplib_model.specs.WordFaults.{is_short, weight_count, is_stray, repeats_section, section_lacks, is_unsupported_section}
 use Rattle.vrplib_rows.specs.KeptRows.{Listed}

@@ -5,7 +5,8 @@ use Rattle.std.specs.Option.{ForSome}
 use Rattle.std.specs.Map.{lookup}
 use denote.Enum.Bare.{sameb}
 use Rattle.vrplib_read.specs.contracts.section.Section.{the_type}
-use Rattle.vrplib_model.specs.Sections.{Section, same_section}
+use Rattle.vrplib_model.specs.declared.section.Section.{Section}
+use Rattle.vrplib_model.specs.Sections.{same_section}
 use Rattle.vrplib_rows.specs.KeptRows.{Listed}
 use Rattle.vrplib_read.specs.inside.Steps.{kind_of}
 use Rattle.vrplib_read.proofs.ReadingLaws.{same_section-true}

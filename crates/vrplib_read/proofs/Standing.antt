@@ -5,7 +5,9 @@ use Rattle.std.specs.Option.{option_map_or}
 use Rattle.indexmap.specs.IndexMap.{get}
 use Rattle.vrp_num.specs.declared.rounding.Rounding.{Rounding}
 use Rattle.vrplib_read.specs.declared.reading.Reading.{Reading}
-use Rattle.vrplib_model.specs.Sections.{Section, same_section, edge_weight_section}
+use Rattle.vrplib_model.specs.declared.section.Section.{Section}
+use Rattle.vrplib_model.specs.declared.section.Section.TheVariants.{EdgeWeight as edge_weight_section}
+use Rattle.vrplib_model.specs.Sections.{same_section}
 use Rattle.vrplib_model.specs.LineKinds.{Line}
 use Rattle.vrplib_model.specs.Values.{node_count}
 use Rattle.vrplib_model.specs.Rows.{rows_of, numbers_of, has_section}

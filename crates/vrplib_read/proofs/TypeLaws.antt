@@ -1,6 +1,7 @@
 -- What the rows of vehicle types are.
 use Rattle.std.proofs.Common.{◌≡◌, ℕ, ◌≤◌, List, ℤ, drop, subst}
-use Rattle.vrplib_model.specs.Sections.{Section, vehicle_types_section}
+use Rattle.vrplib_model.specs.declared.section.Section.{Section}
+use Rattle.vrplib_model.specs.declared.section.Section.TheVariants.{VehicleTypes as vehicle_types_section}
 use Rattle.vrplib_model.specs.Numbers.{int_at}
 use Rattle.vrplib_model.specs.inside.FaultlessRows.{IsRow, IsTypeRow}
 use Rattle.vrplib_read.proofs.GroupLaws.{wider, all_wider}

@@ -2,6 +2,7 @@
 ghost use Rattle.std.specs.Prelude.{◌≡◌, ◌==◌, ◌≤◌, ◌+◌, ◌-◌, ◌<◌, All, IfOk, IfSome, IsTrue, find, length, map, pos};
 ghost use Rattle.std.specs.Option.{option_copied, option_map_or};
 ghost use Rattle.indexmap.specs.IndexMap.{get};
+ghost use Rattle.problem_data.specs.Limits.{most_places};
 ghost use Rattle.problem_data.specs.Valid.{IsValidPlace};
 ghost use Rattle.vrplib_model.specs.Sections.{is_by_node, same_section};
 ghost use Rattle.vrplib_model.specs.Numbers.{int_at, number_at};
@@ -13,18 +14,15 @@ ghost use Rattle.vrplib_read.specs.inside.OfText.{OfText, known_nodes};
 
 use crate::groups::group_of;
 use crate::reading::Reading;
-use problem_data::{Client, Depot, Place, Window};
+use problem_data::{Client, Depot, LARGEST, Place, Window};
 use std::alloc::{AllocError, Global};
 use vrplib_model::Section;
 use vrplib_rows::Rows;
 
-/// The largest time.
-const LARGEST: u64 = 1_000_000_000_000;
-
 /// How many nodes the text has, or 0 where it doesn't say.
 pub(crate) fn node_count(reading: &Reading) -> u32
     ensures known { result ≡ known_nodes reading.now }
-    ensures limit { result ≤ 2048 }
+    ensures limit { result ≤ most_places }
 {
     match reading.keywords.dimension {
         Some(nodes) => nodes,

@@ -11,13 +11,10 @@ ghost use Rattle.vrplib_model.specs.WholeText.{has_long_leg};
 use crate::entries::{node_count, number_at};
 use crate::legs::base_legs;
 use crate::reading::Reading;
-use problem_data::{Matrix, Place, Profile};
+use problem_data::{LARGEST_LEG, Matrix, Place, Profile};
 use std::alloc::{AllocError, Global};
 use vrplib_model::Section;
 use vrplib_rows::Rows;
-
-/// The largest leg.
-const LARGEST_LEG: u64 = 4_000_000_000;
 
 /// A leg times a factor, in thousandths, cut; or none, where it is too long.
 fn scaled_leg(leg: u32, factor: u64) -> Option<u32>

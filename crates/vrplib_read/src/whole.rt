@@ -71,7 +71,7 @@ fn has_bad_vehicle(depots: u32, profiles: usize, types: &[VehicleType]) -> bool
 {
     types
         .iter()
-        .any(|kind| has_wrong_reference(depots, profiles, kind))
+        .any(|vehicle_type| has_wrong_reference(depots, profiles, vehicle_type))
 }
 
 /// Whether a depot is among the places.
@@ -93,8 +93,8 @@ fn has_empty_window(reading: &Reading, types: &[VehicleType]) -> bool
     requires { All (StartsWithin (known_nodes reading.now)) types.now }
     ensures { OfText reading.now (λ all. result ≡ list_any (has_missed_shift reading.now.mode all) types.now) }
 {
-    for kind in types {
-        if has_missed_shift(reading, kind) {
+    for vehicle_type in types {
+        if has_missed_shift(reading, vehicle_type) {
             return true;
         }
     }

@@ -5,7 +5,8 @@ use Rattle.vrp_num.specs.DecimalText.{spelled}
 use Rattle.vrp_num.proofs.Cut.{spelled_from, read_spelled, read_nothing}
 use Rattle.vrplib_model.specs.declared.rule.Rule.{Rule}
 use Rattle.vrplib_model.specs.declared.rule.Rule.TheVariants.{BadNumber}
-use Rattle.vrplib_model.specs.Numbers.{Field, number_or, too_large_rule, number_in}
+use Rattle.vrplib_model.specs.declared.field.Field.{Field}
+use Rattle.vrplib_model.specs.Numbers.{number_or, too_large_rule, number_in}
 
 pub number_spelled : (field : Field) (token : List ℕ) (s : Spelled) (too_large : Rule) (answer : Result ℤ Rule) → Some s ≡ spelled token →
     too_large ≡ too_large_rule field s.is_negative s.is_whole → answer ≡ number_or too_large s.decimal → answer ≡ number_in field token

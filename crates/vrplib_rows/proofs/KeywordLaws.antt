@@ -11,9 +11,13 @@ use Rattle.vrplib_model.specs.declared.rule.Rule.TheVariants.{Repeated, Unsuppor
 use Rattle.vrplib_model.specs.Checks.{broken_if, first_of}
 use Rattle.vrplib_model.specs.inside.FaultlessRows.{IsBetween}
 use Rattle.vrplib_rows.specs.KnownKeywords.{KnowsKeywords, keyword_line_fault}
-use Rattle.vrplib_model.specs.Keywords.{Keyword, keyword_name, keyword_of, keywords, is_distance, is_of_vehicles, dimension, edge_weight_type, edge_weight_format, capacity, vehicles, service_time, max_duration, max_distance}
+use Rattle.vrplib_model.specs.declared.keyword.Keyword.{Keyword}
+use Rattle.vrplib_model.specs.declared.keyword.Keyword.TheVariants.{Dimension as dimension, EdgeWeightType as edge_weight_type, EdgeWeightFormat as edge_weight_format, Capacity as capacity, Vehicles as vehicles, ServiceTime as service_time, MaxDuration as max_duration, MaxDistance as max_distance}
+use Rattle.vrplib_model.specs.Keywords.{keyword_name, keyword_of, keywords, is_distance, is_of_vehicles}
 use Rattle.vrplib_model.specs.LineKinds.{Line, keyword_line}
-use Rattle.vrplib_model.specs.Numbers.{Field, whole, between, rounding, field_value}
+use Rattle.vrplib_model.specs.declared.field.Field.{Field}
+use Rattle.vrplib_model.specs.declared.field.Field.TheVariants.{Whole as whole, Between as between, Rounded as rounding}
+use Rattle.vrplib_model.specs.Numbers.{field_value}
 use Rattle.vrplib_rows.specs.inside.KeywordValues.{is_quantity, IsWithin}
 use Rattle.vrplib_model.specs.Values.{value_tokens}
 use Rattle.vrplib_model.specs.WordFaults.{repeats_keyword, is_unsupported_value, known_value_rule}

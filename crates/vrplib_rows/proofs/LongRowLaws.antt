@@ -15,7 +15,8 @@ use Rattle.vrplib_rows.specs.inside.NextRows.{numbers_fault}
 use Rattle.vrplib_model.specs.Numbers.{number_at}
 use Rattle.vrplib_model.specs.RowFaults.{has_bad_node, has_empty_window, has_other_reloads, is_bad_group, is_bad_vehicle, nodes_named}
 use Rattle.vrplib_model.specs.Rows.{nodes_of}
-use Rattle.vrplib_model.specs.Sections.{Section, depot_section, group_section, vehicle_types_section}
+use Rattle.vrplib_model.specs.declared.section.Section.{Section}
+use Rattle.vrplib_model.specs.declared.section.Section.TheVariants.{Depot as depot_section, Group as group_section, VehicleTypes as vehicle_types_section}
 use Rattle.vrplib_rows.proofs.Repeats.{eqb_same, or_false, repeated-append}
 use Rattle.vrplib_model.proofs.RowBounds.{node-between}
 use Rattle.vrplib_rows.proofs.RowNumbers.{int_at-get_or, nodes_of-append}

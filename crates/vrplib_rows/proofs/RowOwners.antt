@@ -10,7 +10,7 @@ use Rattle.std.proofs.lemmas.List.Folds.{list_any-append, position_or_len_push}
 use Rattle.vrplib_model.specs.Checks.{contains, has_repeated}
 use Rattle.vrplib_rows.specs.inside.RowTables.{AreOwned, names_apart}
 use Rattle.vrplib_model.specs.RowFaults.{nodes_named}
-use Rattle.vrplib_model.specs.Sections.{Section}
+use Rattle.vrplib_model.specs.declared.section.Section.{Section}
 use Rattle.vrplib_rows.proofs.Repeats.{eqb_same, or_false, repeated-append}
 
 -- tests that agree on each number of a list find one alike

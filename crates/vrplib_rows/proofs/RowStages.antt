@@ -18,7 +18,8 @@ use Rattle.vrplib_rows.specs.declared.next_row.NextRow.{NextRow}
 use Rattle.vrplib_model.specs.Numbers.{number_at}
 use Rattle.vrplib_model.specs.RowFaults.{excess, fault_of_row, has_bad_node, has_empty_window, has_right_length, is_bad_group, is_bad_vehicle, nodes_named}
 use Rattle.vrplib_model.specs.Rows.{row_numbers, vehicle_count}
-use Rattle.vrplib_model.specs.Sections.{Section, node_coord_section, demand_section, backhaul_section, time_window_section, service_time_section, release_time_section, prize_section, edge_weight_section, depot_section, group_section, profile_section, vehicle_types_section}
+use Rattle.vrplib_model.specs.declared.section.Section.{Section}
+use Rattle.vrplib_model.specs.declared.section.Section.TheVariants.{NodeCoord as node_coord_section, Demand as demand_section, Backhaul as backhaul_section, TimeWindow as time_window_section, ServiceTime as service_time_section, ReleaseTime as release_time_section, Prize as prize_section, EdgeWeight as edge_weight_section, Depot as depot_section, Group as group_section, Profile as profile_section, VehicleTypes as vehicle_types_section}
 use Rattle.vrplib_rows.proofs.CutRows.{ordered_more, rows_cut-append}
 use Rattle.vrplib_model.proofs.RowBounds.{row-is}
 use Rattle.vrplib_rows.proofs.RowOwners.{owned_more}

@@ -8,7 +8,8 @@ use Rattle.vrplib_model.specs.Checks.{broken_if, first_of, has_repeated}
 use Rattle.vrplib_rows.specs.inside.RowTables.{AreOwned}
 use Rattle.vrplib_model.specs.Numbers.{number_at}
 use Rattle.vrplib_model.specs.RowFaults.{is_bad_group, is_bad_vehicle, nodes_named}
-use Rattle.vrplib_model.specs.Sections.{Section, group_section}
+use Rattle.vrplib_model.specs.declared.section.Section.{Section}
+use Rattle.vrplib_model.specs.declared.section.Section.TheVariants.{Group as group_section}
 
 pub last_test : (a b c r : Bool) → a ≡ false → b ≡ true → r ≡ c → r ≡ (a || (b && c))
 last_test a b c r ea eb er = er ∙ sym (ap (λ x. x || (b && c)) ea ∙ ap (λ x. x && c) eb)

@@ -5,10 +5,13 @@ use Rattle.std.proofs.lemmas.Bool.{eqb-true, leb-true}
 use Rattle.std.proofs.lemmas.List.{append_assoc, append-nil, length-replicate, length_push}
 use Rattle.vrp_num.specs.declared.rounding.Rounding.{Rounding}
 use Rattle.vrplib_model.specs.declared.rule.Rule.{Rule}
-use Rattle.vrplib_model.specs.Numbers.{Field, number, field_value, field_values, first_broken, numbers}
+use Rattle.vrplib_model.specs.declared.field.Field.{Field}
+use Rattle.vrplib_model.specs.declared.field.Field.TheVariants.{Number as number}
+use Rattle.vrplib_model.specs.Numbers.{field_value, field_values, first_broken, numbers}
 use Rattle.vrplib_model.specs.RowFaults.{has_right_length}
 use Rattle.vrplib_model.specs.Rows.{fields}
-use Rattle.vrplib_model.specs.Sections.{Section, node_coord_section, demand_section, backhaul_section, time_window_section, service_time_section, release_time_section, prize_section, edge_weight_section, depot_section, group_section, profile_section, vehicle_types_section}
+use Rattle.vrplib_model.specs.declared.section.Section.{Section}
+use Rattle.vrplib_model.specs.declared.section.Section.TheVariants.{NodeCoord as node_coord_section, Demand as demand_section, Backhaul as backhaul_section, TimeWindow as time_window_section, ServiceTime as service_time_section, ReleaseTime as release_time_section, Prize as prize_section, EdgeWeight as edge_weight_section, Depot as depot_section, Group as group_section, Profile as profile_section, VehicleTypes as vehicle_types_section}
 
 -- a row of the right length has a field for each token
 pub length-fields : (s : Section) (rows : List (List ℤ)) (tokens : List (List ℕ)) → has_right_length s tokens ≡ true → length (fields s rows (length tokens)) ≡ length tokens

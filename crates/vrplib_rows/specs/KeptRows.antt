@@ -1,6 +1,6 @@
 -- The rows of a section that are kept, and the first of them that names a node.
 use Rattle.std.specs.Prelude.{ℕ, List, map, position, ℤ, Option}
-use Rattle.vrplib_model.specs.Sections.{Section}
+use Rattle.vrplib_model.specs.declared.section.Section.{Section}
 use Rattle.vrplib_model.specs.Checks.{contains}
 use Rattle.vrplib_model.specs.RowFaults.{nodes_named}
 

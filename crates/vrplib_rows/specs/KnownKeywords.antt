@@ -3,7 +3,9 @@ use Rattle.std.specs.Prelude.{◌≡◌, ℕ, Bool, true, false, ◌||◌, List,
 use Rattle.vrp_num.specs.declared.rounding.Rounding.{Rounding}
 use Rattle.vrplib_model.specs.declared.rule.Rule.{Rule}
 use Rattle.vrplib_model.specs.declared.rule.Rule.TheVariants.{Repeated, Unsupported}
-use Rattle.vrplib_model.specs.Keywords.{Keyword, keyword_of, is_distance, is_of_vehicles, dimension, edge_weight_type, edge_weight_format, capacity, vehicles, service_time, max_duration, max_distance}
+use Rattle.vrplib_model.specs.declared.keyword.Keyword.{Keyword}
+use Rattle.vrplib_model.specs.declared.keyword.Keyword.TheVariants.{Dimension as dimension, EdgeWeightType as edge_weight_type, EdgeWeightFormat as edge_weight_format, Capacity as capacity, Vehicles as vehicles, ServiceTime as service_time, MaxDuration as max_duration, MaxDistance as max_distance}
+use Rattle.vrplib_model.specs.Keywords.{keyword_of, is_distance, is_of_vehicles}
 use Rattle.vrplib_model.specs.LineKinds.{Line}
 use Rattle.vrplib_model.specs.Values.{has_keyword, has_value, keyword_number, is_euclidean, is_explicit}
 use Rattle.vrplib_model.specs.Checks.{broken_if, first_of}

@@ -1,6 +1,7 @@
 //! The values of the keywords read so far.
 ghost use Rattle.std.specs.Prelude.{◌^◌, ◌≤◌};
 ghost use Rattle.std.specs.Option.{ForSome};
+ghost use Rattle.problem_data.specs.Limits.{largest, most_places, most_vehicles};
 
 mod needs;
 mod value;
@@ -8,7 +9,7 @@ mod value;
 use crate::weight_format::WeightFormat;
 use crate::weight_type::WeightType;
 use value::{is_unsupported_value, number, only_token, weight_format, weight_type};
-use problem_data::LARGEST;
+use problem_data::{LARGEST, MOST_PLACES, MOST_VEHICLES};
 use vrp_num::Rounding;
 use vrplib_model::{is_distance, is_of_vehicles, Field, Keyword, Rule};
 
@@ -29,12 +30,12 @@ pub struct Keywords {
     pub max_duration: Option<u64>,
     /// The longest route in distance.
     pub max_distance: Option<u64>,
-    ghost node_limits: { ForSome dimension (λ n. (2 ≤ n) × (n ≤ 2048)) },
-    ghost capacity_limit: { ForSome capacity (λ n. n ≤ 10 ^ 12) },
-    ghost vehicle_limits: { ForSome vehicles (λ n. (1 ≤ n) × (n ≤ 2048)) },
-    ghost service_limit: { ForSome service_time (λ n. n ≤ 10 ^ 12) },
-    ghost duration_limit: { ForSome max_duration (λ n. n ≤ 10 ^ 12) },
-    ghost distance_limit: { ForSome max_distance (λ n. n ≤ 10 ^ 12) },
+    ghost node_limits: { ForSome dimension (λ n. (2 ≤ n) × (n ≤ most_places)) },
+    ghost capacity_limit: { ForSome capacity (λ n. n ≤ largest) },
+    ghost vehicle_limits: { ForSome vehicles (λ n. (1 ≤ n) × (n ≤ most_vehicles)) },
+    ghost service_limit: { ForSome service_time (λ n. n ≤ largest) },
+    ghost duration_limit: { ForSome max_duration (λ n. n ≤ largest) },
+    ghost distance_limit: { ForSome max_distance (λ n. n ≤ largest) },
 }
 
 impl Keywords {
@@ -94,13 +95,13 @@ impl Keywords {
     {
         match keyword {
             Keyword::Dimension => {
-                self.dimension = Some(number(mode, Field::Between(2, 2048), token)? as u32);
+                self.dimension = Some(number(mode, Field::Between(2, u64::from(MOST_PLACES)), token)? as u32);
             }
             Keyword::EdgeWeightType => self.weight_type = weight_type(token),
             Keyword::EdgeWeightFormat => self.weight_format = Some(weight_format(token)),
             Keyword::Capacity => self.capacity = Some(number(mode, Field::Whole(LARGEST), token)?),
             Keyword::Vehicles => {
-                self.vehicles = Some(number(mode, Field::Between(1, 2048), token)? as u32);
+                self.vehicles = Some(number(mode, Field::Between(1, u64::from(MOST_VEHICLES)), token)? as u32);
             }
             Keyword::ServiceTime => {
                 self.service_time = Some(number(mode, Field::Rounded(LARGEST), token)?);

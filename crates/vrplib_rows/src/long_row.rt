@@ -7,7 +7,7 @@ ghost use Rattle.vrplib_rows.specs.inside.NextRows.{Follows, later_fault, number
 ghost use Rattle.vrplib_model.specs.Numbers.{number_at};
 ghost use Rattle.vrplib_model.specs.RowFaults.{has_empty_window, has_right_length};
 ghost use Rattle.vrplib_model.specs.Rows.{nodes_of};
-ghost use Rattle.vrplib_model.specs.Sections.{vehicle_types_section};
+ghost use Rattle.vrplib_model.specs.declared.section.Section.TheVariants.{VehicleTypes as vehicle_types_section};
 
 use crate::next_row::NextRow;
 use crate::numbers::field_value;

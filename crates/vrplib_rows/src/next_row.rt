@@ -1,26 +1,16 @@
 //! The fields of a section's next row.
 ghost use Rattle.std.specs.Prelude.{◌≡◌, ℕ, ◌-◌, ◌==◌, ◌<◌, if◌then◌else◌, List, ℤ, Some, length, slice_get};
+ghost use Rattle.problem_data.specs.Limits.{largest, most_vehicles};
 ghost use Rattle.vrplib_model.specs.Numbers.{IsHeldField};
 ghost use Rattle.vrplib_model.specs.Rows.{fields, vehicle_count};
-ghost use Rattle.vrplib_model.specs.Sections.{vehicle_types_section};
+ghost use Rattle.vrplib_model.specs.declared.section.Section.TheVariants.{VehicleTypes as vehicle_types_section};
 ghost use Rattle.vrplib_rows.specs.inside.NextRows.{Follows};
 
+use problem_data::{LARGEST, LARGEST_LEG, LARGEST_UNIT_COST, MOST_PROFILES, MOST_RELOADS, UNLIMITED};
 use vrplib_model::{Field, Section};
 
-/// The largest quantity: a load, a time, a cost or a prize.
-const MOST_QUANTITY: u64 = 1_000_000_000_000;
-/// What stands for no maximum.
-const NO_MAXIMUM: u64 = 1_000_000_000_000_000_000;
-/// The largest cost of a unit of distance or duration.
-const MOST_UNIT_COST: u64 = 1_000_000;
-/// The longest leg.
-const MOST_LEG: u64 = 4_000_000_000;
 /// The largest factor of a profile, in thousandths.
 const MOST_FACTOR: u64 = 10_000;
-/// The most profiles.
-const MOST_PROFILES: u64 = 4;
-/// The most reloads of a vehicle.
-const MOST_RELOADS: u64 = 32;
 
 /// The row that comes next in a section.
 #[derive(Clone, Copy)]
@@ -41,13 +31,13 @@ impl NextRow {
     {
         match self.section {
             Section::NodeCoord => node_or(k, Field::Coordinate),
-            Section::Demand => node_or(k, Field::Whole(MOST_QUANTITY)),
-            Section::Backhaul => node_or(k, Field::Whole(MOST_QUANTITY)),
-            Section::TimeWindow => node_or(k, Field::Rounded(MOST_QUANTITY)),
-            Section::ServiceTime => node_or(k, Field::Rounded(MOST_QUANTITY)),
-            Section::ReleaseTime => node_or(k, Field::Rounded(MOST_QUANTITY)),
-            Section::Prize => node_or(k, Field::Rounded(MOST_QUANTITY)),
-            Section::EdgeWeight => Field::Rounded(MOST_LEG),
+            Section::Demand => node_or(k, Field::Whole(LARGEST)),
+            Section::Backhaul => node_or(k, Field::Whole(LARGEST)),
+            Section::TimeWindow => node_or(k, Field::Rounded(LARGEST)),
+            Section::ServiceTime => node_or(k, Field::Rounded(LARGEST)),
+            Section::ReleaseTime => node_or(k, Field::Rounded(LARGEST)),
+            Section::Prize => node_or(k, Field::Rounded(LARGEST)),
+            Section::EdgeWeight => Field::Rounded(LARGEST_LEG),
             Section::Depot => Field::NodeOrEnd,
             Section::Group => Field::Number,
             Section::Profile => profile_field(k, self.number),
@@ -80,19 +70,19 @@ fn profile_field(k: usize, number: u64) -> Field
 /// The k-th field of a vehicle type's row: type, count, capacity, start, end, the fixed cost and the unit costs, the shift,
 /// the two maxima, the profile, the reloads, and the nodes of reload depots.
 fn vehicle_field(k: usize, vehicles_left: u64) -> Field
-    ensures field { (rows : List (List ℤ)) (n : ℕ) → vehicles_left ≡ 2048 - vehicle_count rows → k < length (fields vehicle_types_section rows n)
+    ensures field { (rows : List (List ℤ)) (n : ℕ) → vehicles_left ≡ most_vehicles - vehicle_count rows → k < length (fields vehicle_types_section rows n)
         → slice_get (fields vehicle_types_section rows n) k ≡ Some result }
     ensures held { IsHeldField result }
 {
     match k {
         1 => Field::Between(1, vehicles_left),
-        2 => Field::Whole(MOST_QUANTITY),
-        5 | 8 => Field::Rounded(MOST_QUANTITY),
-        6 | 7 => Field::Whole(MOST_UNIT_COST),
-        9 => Field::RoundedOr(MOST_QUANTITY, MOST_QUANTITY),
-        10 | 11 => Field::RoundedOr(MOST_QUANTITY, NO_MAXIMUM),
-        12 => Field::Between(1, MOST_PROFILES),
-        13 => Field::Whole(MOST_RELOADS),
+        2 => Field::Whole(LARGEST),
+        5 | 8 => Field::Rounded(LARGEST),
+        6 | 7 => Field::Whole(LARGEST_UNIT_COST),
+        9 => Field::RoundedOr(LARGEST, LARGEST),
+        10 | 11 => Field::RoundedOr(LARGEST, UNLIMITED),
+        12 => Field::Between(1, u64::from(MOST_PROFILES)),
+        13 => Field::Whole(u64::from(MOST_RELOADS)),
         _ => Field::Number,
     }
 }

@@ -1,17 +1,16 @@
 //! The numbers of tokens, as the fields of rows and values hold them.
 ghost use Rattle.std.specs.Prelude.{◌≡◌, ◌^◌, ◌<◌, ◌≤◌, ◌==◌, ◌&&◌, nat_le, if◌then◌else◌, nat_abs, negsuc, Ok, Err, IfOk};
+ghost use Rattle.problem_data.specs.Limits.{largest, unlimited};
 ghost use Rattle.vrp_num.specs.Rounding.{rounded};
 ghost use Rattle.vrplib_model.specs.Numbers.{◌|>◌, number_or, too_large_rule, number_in, is_minus_one, is_minus_one_token, at_least_zero, as_whole, checked, at_most, as_number, held_value, field_value, IsHeldField};
 ghost use Rattle.vrplib_model.specs.declared.rule.Rule.TheVariants.{BadNumber, Limit};
 
+use problem_data::LARGEST;
 use vrp_num::{round, Decimal, NumberFault, Rounding, Spelled};
 use vrplib_model::{Field, Rule};
 
 /// How many millionths -1 is.
 const MINUS_ONE: i64 = -1_000_000;
-
-/// How many millionths the largest coordinate is.
-const LARGEST_COORDINATE: u64 = 1_000_000_000_000;
 
 /// The number of a token in a field, or the rule that it breaks.
 #[tactic(auto, unfolding(vrplib_model::specs::Numbers::field_value))]
@@ -157,7 +156,7 @@ fn whole_between(micro: i64, low: u64, high: u64) -> Result<i64, Rule>
 
 /// A number that is rounded, and is then at most the limit.
 fn rounded(mode: Rounding, micro: i64, limit: u64) -> Result<i64, Rule>
-    requires { limit ≤ 10 ^ 18 }
+    requires { limit ≤ unlimited }
     ensures { result ≡ (at_least_zero micro |> (λ m. at_most limit (rounded mode m)) |> as_number) }
 {
     if micro < 0 {
@@ -173,8 +172,8 @@ fn rounded(mode: Rounding, micro: i64, limit: u64) -> Result<i64, Rule>
 
 /// A number that is rounded, and is then at most the limit, or -1, which stands for the other number.
 fn rounded_or(mode: Rounding, micro: i64, limit: u64, other: u64) -> Result<i64, Rule>
-    requires limit { limit ≤ 10 ^ 18 }
-    requires other { other ≤ 10 ^ 18 }
+    requires limit { limit ≤ unlimited }
+    requires other { other ≤ unlimited }
     ensures { result ≡ (if is_minus_one micro then as_number other else (at_least_zero micro |> (λ m. at_most limit (rounded mode m)) |> as_number)) }
 {
     if is_minus_one(micro) {
@@ -186,9 +185,9 @@ fn rounded_or(mode: Rounding, micro: i64, limit: u64, other: u64) -> Result<i64,
 
 /// A number of at most a million in size, in millionths.
 fn coordinate(micro: i64) -> Result<i64, Rule>
-    ensures { result ≡ (if nat_le (nat_abs micro) (10 ^ 12) then Ok micro else Err Limit) }
+    ensures { result ≡ (if nat_le (nat_abs micro) largest then Ok micro else Err Limit) }
 {
-    if micro.unsigned_abs() <= LARGEST_COORDINATE {
+    if micro.unsigned_abs() <= LARGEST {
         Ok(micro)
     } else {
         Err(Rule::Limit)
@@ -220,51 +219,5 @@ fn held_value(mode: Rounding, field: Field, micro: i64) -> Result<i64, Rule>
         Field::RoundedOr(limit, other) => rounded_or(mode, micro, limit, other),
         Field::Coordinate => coordinate(micro),
         Field::NodeOrEnd => node_or_end(micro),
-    }
-}
-
-#[cfg(test)]
-mod tests {
-    use super::*;
-
-    const LIMIT: u64 = 1_000_000_000_000;
-
-    fn rounded_value(mode: Rounding, token: &[u8]) -> Result<i64, Rule> {
-        field_value(mode, Field::Rounded(LIMIT), token)
-    }
-
-    fn whole_value(token: &[u8]) -> Result<i64, Rule> {
-        field_value(Rounding::Round, Field::Whole(LIMIT), token)
-    }
-
-    #[test]
-    fn whole_tokens(rt: HostRuntime) {
-        for (token, expected) in [
-            ("1.5e1", Ok(15)),
-            ("-0.0", Ok(0)),
-            ("1.5", Err(Rule::BadNumber)),
-            ("-5", Err(Rule::BadNumber)),
-            ("1e-1000000", Err(Rule::BadNumber)),
-            ("1000000000001", Err(Rule::Limit)),
-            ("1e13", Err(Rule::Limit)),
-            ("-1e13", Err(Rule::BadNumber)),
-            ("10000000000000.5", Err(Rule::BadNumber)),
-        ] {
-            assert_eq!(rt; whole_value(token.as_bytes()), expected, "{token}");
-        }
-    }
-
-    #[test]
-    fn rounded_tokens(rt: HostRuntime) {
-        for (mode, token, expected) in [
-            (Rounding::Round, "2.5", Ok(3)),
-            (Rounding::Exact, "2.5", Ok(2500)),
-            (Rounding::Round, "1e12", Ok(1_000_000_000_000)),
-            (Rounding::Exact, "1e12", Err(Rule::Limit)),
-            (Rounding::Round, "10000000000000.5", Err(Rule::Limit)),
-            (Rounding::Round, "-1", Err(Rule::BadNumber)),
-        ] {
-            assert_eq!(rt; rounded_value(mode, token.as_bytes()), expected, "{token}");
-        }
     }
 }

@@ -3,7 +3,7 @@ ghost use Rattle.std.specs.Prelude.{◌≡◌, ℕ, ◌+◌, ◌<◌, Bool, true
 ghost use Rattle.vrplib_model.specs.Checks.{broken_if, first_of, has_node_outside, has_repeated};
 ghost use Rattle.vrplib_rows.specs.inside.RowTables.{AreOwned};
 ghost use Rattle.vrplib_rows.specs.inside.NextRows.{Follows, numbers_fault};
-ghost use Rattle.vrplib_model.specs.Sections.{group_section, vehicle_types_section};
+ghost use Rattle.vrplib_model.specs.declared.section.Section.TheVariants.{Group as group_section, VehicleTypes as vehicle_types_section};
 ghost use Rattle.vrplib_model.specs.RowFaults.{has_bad_node, has_empty_window, has_other_reloads, is_bad_group, is_bad_vehicle, names_once, nodes_named};
 
 use crate::marks::Marks;

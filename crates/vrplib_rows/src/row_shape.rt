@@ -6,14 +6,8 @@ ghost use Rattle.vrplib_model.specs.RowFaults.{excess, goes_on_after_end, has_ri
 
 use crate::numbers::is_minus_one_token;
 use crate::tokens::next_token;
+use problem_data::{MOST_GROUPS, MOST_PROFILES, MOST_TYPES};
 use vrplib_model::{Rule, Section};
-
-/// The most groups.
-const MOST_GROUPS: usize = 1024;
-/// The most profiles.
-const MOST_PROFILES: usize = 4;
-/// The most vehicle types.
-const MOST_TYPES: usize = 64;
 
 /// How many rows a section has, how many numbers these have, and how many nodes and weights the text has.
 #[derive(Clone, Copy)]
@@ -75,9 +69,9 @@ pub(crate) fn excess(section: Section, count: usize, counts: Counts) -> Option<R
             Rule::RowCount,
         ),
         Section::Depot => None,
-        Section::Group => broken_if(counts.rows >= MOST_GROUPS, Rule::Limit),
-        Section::Profile => broken_if(counts.rows >= MOST_PROFILES, Rule::Limit),
-        Section::VehicleTypes => broken_if(counts.rows >= MOST_TYPES, Rule::Limit),
+        Section::Group => broken_if(counts.rows >= MOST_GROUPS as usize, Rule::Limit),
+        Section::Profile => broken_if(counts.rows >= MOST_PROFILES as usize, Rule::Limit),
+        Section::VehicleTypes => broken_if(counts.rows >= MOST_TYPES as usize, Rule::Limit),
         Section::NodeCoord
         | Section::Demand
         | Section::Backhaul

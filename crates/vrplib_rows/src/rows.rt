@@ -1,5 +1,6 @@
 //! The rows of a section.
 ghost use Rattle.std.specs.Prelude.{◌≡◌, ◌+◌, ◌-◌, ◌^◌, ◌<◌, ◌≤◌, true, not, [], ◌∷◌, ◌++◌, All, IfOk, IfSome, OnOk, OnErr, Ok, Some, None, flat_map, length, slice_get, slice_index, slice_range};
+ghost use Rattle.problem_data.specs.Limits.{most_places, most_vehicles};
 ghost use Rattle.vrplib_model.specs.Checks.{broken_if, first_of};
 ghost use Rattle.vrplib_rows.specs.inside.RowTables.{EndInOrder, rows_cut};
 ghost use Rattle.vrplib_model.specs.inside.FaultlessRows.{IsRow};
@@ -8,7 +9,7 @@ ghost use Rattle.vrplib_model.specs.Lines.{tokens};
 ghost use Rattle.vrplib_rows.specs.inside.NextRows.{Follows};
 ghost use Rattle.vrplib_model.specs.RowFaults.{excess, fault_of_row, has_right_length};
 ghost use Rattle.vrplib_model.specs.Rows.{row_numbers, vehicle_count};
-ghost use Rattle.vrplib_model.specs.Sections.{vehicle_types_section};
+ghost use Rattle.vrplib_model.specs.declared.section.Section.TheVariants.{VehicleTypes as vehicle_types_section};
 
 use crate::long_row::long_fault;
 use crate::marks::Marks;
@@ -19,13 +20,11 @@ use crate::row_nodes::{name_nodes, number_at};
 use crate::row_numbers::read_numbers;
 use crate::row_shape::{excess, has_right_length, Counts};
 use crate::tokens::token_count;
+use problem_data::MOST_VEHICLES;
 use std::alloc::{AllocError, Global};
 use std::marker::Model;
 use vrp_num::Rounding;
 use vrplib_model::{Rule, Section};
-
-/// The most vehicles of all types.
-const MOST_VEHICLES: u64 = 2048;
 
 /// The rows of a section, one after the other, and for each node the first row that names it.
 #[derive(Drop)]
@@ -59,7 +58,7 @@ impl Model for Rows {
 impl Rows {
     /// No rows yet, of a text with so many nodes.
     pub fn new(alloc: Global, section: Section, nodes: u32) -> Result<Rows, AllocError>
-        requires { nodes ≤ 2048 }
+        requires { nodes ≤ most_places }
         ensures { IfOk result (λ made. made ≡ record { section = section; nodes = nodes; rows = [] }) }
     {
         let places = nodes as usize + 1;
@@ -85,7 +84,7 @@ impl Rows {
     /// How many nodes the text has.
     pub fn nodes(&self) -> u32
         ensures number { result ≡ self.now.nodes }
-        ensures limit { result ≤ 2048 }
+        ensures limit { result ≤ most_places }
     {
         self.nodes
     }
@@ -93,7 +92,7 @@ impl Rows {
     /// How many rows there are.
     pub fn count(&self) -> usize
         ensures number { result ≡ length self.now.rows }
-        ensures limit { self.now.nodes ≤ 2048 }
+        ensures limit { self.now.nodes ≤ most_places }
         ensures bounds { All (IsRow self.now.section self.now.nodes) self.now.rows }
     {
         self.ends.len()
@@ -205,10 +204,10 @@ impl Rows {
 
     /// How many vehicles the types leave, in a section of vehicle types.
     fn vehicles_left(&self) -> u64
-        ensures { self.now.section ≡ vehicle_types_section → result ≡ 2048 - vehicle_count self.now.rows }
+        ensures { self.now.section ≡ vehicle_types_section → result ≡ most_vehicles - vehicle_count self.now.rows }
     {
         match self.section {
-            Section::VehicleTypes => self.without_vehicles(MOST_VEHICLES),
+            Section::VehicleTypes => self.without_vehicles(u64::from(MOST_VEHICLES)),
             _ => 0,
         }
     }

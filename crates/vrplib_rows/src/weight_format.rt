@@ -1,4 +1,5 @@
 //! How legs in the text are laid out.
+
 /// How legs in the text are laid out.
 #[derive(Clone, Copy, Debug, PartialEq, Eq)]
 pub enum WeightFormat {

@@ -1,4 +1,5 @@
 //! Where the legs come from.
+
 /// Where the legs come from.
 #[derive(Clone, Copy, Debug, PartialEq, Eq)]
 pub enum WeightType {

@@ -3,6 +3,7 @@ use Rattle.std.specs.Prelude.{ℕ, ◌<◌, ◌+◌, ◌*◌, ◌/◌, ◌^◌, 
 use Rattle.std.specs.List.{list_any}
 use Rattle.std.specs.Option.{option_map_or}
 use Rattle.indexmap.specs.IndexMap.{get}
+use Rattle.problem_data.specs.Limits.{largest, largest_leg}
 use Rattle.problem_data.specs.declared.problem.Place.{Place}
 use Rattle.problem_data.specs.declared.problem.Profile.{Profile}
 use Rattle.problem_data.specs.declared.problem.VehicleType.{VehicleType}
@@ -12,7 +13,9 @@ use Rattle.vrplib_read.specs.declared.reading.Reading.{Reading}
 use Rattle.vrplib_rows.specs.declared.weight_format.WeightFormat.{WeightFormat}
 use Rattle.vrplib_rows.specs.declared.weight_format.WeightFormat.TheVariants.{FullMatrix, LowerRow}
 use Rattle.vrplib_model.specs.LineKinds.{Line}
-use Rattle.vrplib_model.specs.Sections.{Section, same_section, edge_weight_section}
+use Rattle.vrplib_model.specs.declared.section.Section.{Section}
+use Rattle.vrplib_model.specs.declared.section.Section.TheVariants.{EdgeWeight as edge_weight_section}
+use Rattle.vrplib_model.specs.Sections.{same_section}
 use Rattle.vrplib_model.specs.Numbers.{number_at}
 use Rattle.vrplib_model.specs.Rows.{nodes_of}
 use Rattle.vrplib_model.specs.Entries.{place_of, counted, depot_nodes}
@@ -59,7 +62,7 @@ weight_leg format n weights i j = if i == j then 0 else number_at (place_by form
 
 -- the leg is above the largest
 abbrev pub is_long : ℕ → Bool
-is_long leg = nat_lt (4 * 10 ^ 9) leg
+is_long leg = nat_lt largest_leg leg
 
 -- legs times a factor, in thousandths, cut
 abbrev pub scaled : ℕ → List ℕ → List ℕ

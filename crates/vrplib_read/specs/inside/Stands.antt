@@ -3,7 +3,8 @@ use Rattle.std.specs.Prelude.{◌≡◌, Bool, true, false, List, [], Option, So
 use Rattle.indexmap.specs.IndexMap.{get}
 use Rattle.vrp_num.specs.declared.rounding.Rounding.{Rounding}
 use Rattle.vrplib_read.specs.declared.reading.Reading.{Reading}
-use Rattle.vrplib_model.specs.Sections.{Section, same_section}
+use Rattle.vrplib_model.specs.declared.section.Section.{Section}
+use Rattle.vrplib_model.specs.Sections.{same_section}
 use Rattle.vrplib_model.specs.LineKinds.{Line}
 use Rattle.vrplib_model.specs.Rows.{next_position, rows_of, has_section}
 use Rattle.vrplib_model.specs.Values.{node_count}

@@ -8,7 +8,8 @@ use Rattle.vrplib_model.specs.Rows.{next_position, row_numbers}
 use Rattle.vrplib_model.specs.Checks.{broken_if, first_of}
 use Rattle.vrplib_model.specs.WordFaults.{is_short, is_stray, is_repeated, lacks, is_unsupported, keyword_fault}
 use Rattle.vrplib_model.specs.Faults.{fault_within, fault_of}
-use Rattle.vrplib_model.specs.Sections.{Section, same_section}
+use Rattle.vrplib_model.specs.declared.section.Section.{Section}
+use Rattle.vrplib_model.specs.Sections.{same_section}
 use Rattle.vrplib_rows.specs.KeptRows.{Listed}
 use Rattle.vrplib_read.specs.declared.reading.Reading.{Reading}
 use Rattle.vrplib_read.specs.inside.Stands.{Stands}

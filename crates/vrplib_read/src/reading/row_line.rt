@@ -8,7 +8,9 @@ ghost use Rattle.vrplib_model.specs.Lines.{tokens};
 ghost use Rattle.vrplib_model.specs.Numbers.{is_minus_one_token};
 ghost use Rattle.vrplib_model.specs.RowFaults.{row_fault};
 ghost use Rattle.vrplib_model.specs.Rows.{after_row};
-ghost use Rattle.vrplib_model.specs.Sections.{Section, depot_section, same_section};
+ghost use Rattle.vrplib_model.specs.declared.section.Section.{Section};
+ghost use Rattle.vrplib_model.specs.declared.section.Section.TheVariants.{Depot as depot_section};
+ghost use Rattle.vrplib_model.specs.Sections.{same_section};
 ghost use Rattle.vrplib_read.specs.inside.OfText.{OfText};
 ghost use Rattle.vrplib_read.specs.inside.Steps.{Judges, with_row};
 

@@ -5,7 +5,8 @@ ghost use Rattle.vrplib_model.specs.declared.rule.Rule.TheVariants.{Unsupported}
 ghost use Rattle.vrplib_model.specs.Checks.{broken_if};
 ghost use Rattle.vrplib_model.specs.Keywords.{is_of_vehicles};
 ghost use Rattle.vrplib_model.specs.LineKinds.{section_line};
-ghost use Rattle.vrplib_model.specs.Sections.{Section, same_section, section_of};
+ghost use Rattle.vrplib_model.specs.declared.section.Section.{Section};
+ghost use Rattle.vrplib_model.specs.Sections.{same_section, section_of};
 ghost use Rattle.vrplib_read.specs.inside.Stands.{Stands};
 ghost use Rattle.vrplib_read.specs.inside.OfText.{OfText};
 ghost use Rattle.vrplib_read.specs.inside.Steps.{Judges, fault_of_line, opened_rows};

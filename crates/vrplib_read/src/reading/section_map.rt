@@ -4,7 +4,8 @@ ghost use Rattle.std.specs.Option.{ForSome};
 ghost use Rattle.indexmap.specs.IndexMap.{get};
 ghost use Rattle.vrplib_model.specs.Lines.{tokens};
 ghost use Rattle.vrplib_model.specs.RowFaults.{fault_of_row};
-ghost use Rattle.vrplib_model.specs.Sections.{Section, same_section};
+ghost use Rattle.vrplib_model.specs.declared.section.Section.{Section};
+ghost use Rattle.vrplib_model.specs.Sections.{same_section};
 ghost use Rattle.vrplib_read.specs.inside.Steps.{kind_of, with_row};
 
 use indexmap::IndexMap;

@@ -2,7 +2,8 @@
 ghost use Rattle.std.specs.Prelude.{◌≡◌, flat_map, if◌then◌else◌, length, nat_lt, unwrap_or};
 ghost use Rattle.std.specs.Option.{option_copied, option_map_or};
 ghost use Rattle.indexmap.specs.IndexMap.{get};
-ghost use Rattle.vrplib_model.specs.Sections.{edge_weight_section, is_by_node, same_section};
+ghost use Rattle.vrplib_model.specs.declared.section.Section.TheVariants.{EdgeWeight as edge_weight_section};
+ghost use Rattle.vrplib_model.specs.Sections.{is_by_node, same_section};
 ghost use Rattle.vrplib_model.specs.Rows.{rows_of};
 ghost use Rattle.vrplib_read.specs.inside.OfText.{OfText};
 ghost use Rattle.vrplib_model.specs.Values.{node_count};

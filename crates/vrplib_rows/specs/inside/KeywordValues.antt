@@ -1,9 +1,11 @@
 -- What reading a keyword's value does to the values that are kept.
 use Rattle.std.specs.Prelude.{ℕ, ◌≤◌, Bool, true, false, List, ◌∷◌}
 use Rattle.vrp_num.specs.declared.rounding.Rounding.{Rounding}
-use Rattle.vrplib_model.specs.Keywords.{Keyword, keyword_name}
+use Rattle.vrplib_model.specs.declared.keyword.Keyword.{Keyword}
+use Rattle.vrplib_model.specs.Keywords.{keyword_name}
 use Rattle.vrplib_model.specs.LineKinds.{Line, keyword_line}
-use Rattle.vrplib_model.specs.Numbers.{Field, whole, between, rounding}
+use Rattle.vrplib_model.specs.declared.field.Field.{Field}
+use Rattle.vrplib_model.specs.declared.field.Field.TheVariants.{Whole as whole, Between as between, Rounded as rounding}
 use Rattle.vrplib_rows.specs.declared.keywords.Keywords.{Keywords}
 use Rattle.vrplib_rows.specs.KnownKeywords.{KnowsKeywords}
 

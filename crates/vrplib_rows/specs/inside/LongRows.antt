@@ -5,7 +5,8 @@ use Rattle.vrplib_model.specs.Checks.{has_node_outside}
 use Rattle.vrplib_rows.specs.inside.NextRows.{token_fault}
 use Rattle.vrplib_model.specs.Rows.{nodes_of, row_numbers}
 use Rattle.vrp_num.specs.declared.rounding.Rounding.{Rounding}
-use Rattle.vrplib_model.specs.Sections.{Section, depot_section, group_section, vehicle_types_section}
+use Rattle.vrplib_model.specs.declared.section.Section.{Section}
+use Rattle.vrplib_model.specs.declared.section.Section.TheVariants.{Depot as depot_section, Group as group_section, VehicleTypes as vehicle_types_section}
 
 -- where the nodes begin that end a row of the section, in sections whose rows name any number of them
 abbrev pub nodes_from : Section → Option ℕ

@@ -1,5 +1,6 @@
 -- The row that comes next in a section.
 use Rattle.std.specs.Prelude.{◌≡◌, ℕ, ◌+◌, ◌-◌, List, [], ◌∷◌, length, ℤ, Option}
+use Rattle.problem_data.specs.Limits.{most_vehicles}
 use Rattle.vrp_num.specs.declared.rounding.Rounding.{Rounding}
 use Rattle.vrplib_model.specs.declared.rule.Rule.{Rule}
 use Rattle.vrplib_model.specs.declared.rule.Rule.TheVariants.{BadNode, EmptyWindow, BadVehicle, BadGroup}
@@ -7,13 +8,14 @@ use Rattle.vrplib_rows.specs.declared.next_row.NextRow.{NextRow}
 use Rattle.vrplib_model.specs.Checks.{broken_if, first_of}
 use Rattle.vrplib_model.specs.Numbers.{field_values, first_broken}
 use Rattle.vrplib_model.specs.RowFaults.{has_bad_node, has_empty_window, is_bad_group, is_bad_vehicle}
-use Rattle.vrplib_model.specs.Sections.{Section, vehicle_types_section}
+use Rattle.vrplib_model.specs.declared.section.Section.{Section}
+use Rattle.vrplib_model.specs.declared.section.Section.TheVariants.{VehicleTypes as vehicle_types_section}
 use Rattle.vrplib_model.specs.Rows.{fields, row_numbers, vehicle_count}
 
 -- the next row comes behind these rows
 pub record Follows (next : NextRow) (rows : List (List ℤ)) : Type 0 where
   pub number : next.number ≡ length rows + 1
-  pub vehicles : next.section ≡ vehicle_types_section → next.vehicles_left ≡ 2048 - vehicle_count rows
+  pub vehicles : next.section ≡ vehicle_types_section → next.vehicles_left ≡ most_vehicles - vehicle_count rows
 
 -- the first rule that a token of the row breaks
 abbrev pub token_fault : Rounding → Section → List (List ℕ) → List (List ℤ) → Option Rule

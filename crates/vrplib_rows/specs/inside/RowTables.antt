@@ -1,7 +1,9 @@
 -- How the rows of a section are kept: one after the other, with the first row that names each node.
 use Rattle.std.specs.Prelude.{◌≡◌, ℕ, suc, ◌+◌, ◌≤◌, Bool, true, false, List, [], ◌∷◌, length, flat_map, All, slice_index, slice_range, ℤ}
 use Rattle.std.specs.Option.{option_map_or}
-use Rattle.vrplib_model.specs.Sections.{Section, group_section}
+use Rattle.problem_data.specs.Limits.{most_places}
+use Rattle.vrplib_model.specs.declared.section.Section.{Section}
+use Rattle.vrplib_model.specs.declared.section.Section.TheVariants.{Group as group_section}
 use Rattle.vrplib_model.specs.Checks.{has_repeated}
 use Rattle.vrplib_model.specs.RowFaults.{names_once, nodes_named}
 use Rattle.vrplib_model.specs.inside.FaultlessRows.{IsRow}
@@ -30,7 +32,7 @@ pub record AreOwned (section : Section) (nodes : ℕ) (rows : List (List ℤ)) (
 
 -- how rows are kept: their numbers, where each ends, the first row that names each node, and a mark for each node
 pub record IsKeptAs (section : Section) (nodes : ℕ) (numbers : List ℤ) (ends owners : List ℕ) (marks : ℕ) : Type 0 where
-  pub limit : nodes ≤ 2048
+  pub limit : nodes ≤ most_places
   pub ordered : EndInOrder 0 ends (length numbers)
   pub each : All (IsRow section nodes) (rows_cut 0 ends numbers)
   pub owners_are : AreOwned section nodes (rows_cut 0 ends numbers) owners

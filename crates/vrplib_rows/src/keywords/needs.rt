@@ -1,5 +1,6 @@
 //! What the keywords above a section must say, and what they say of its rows.
 ghost use Rattle.std.specs.Prelude.{◌≡◌, ◌*◌, ◌≤◌, ◌&&◌, ◌||◌, not, [], ◌∷◌, IsSome, unwrap_or};
+ghost use Rattle.problem_data.specs.Limits.{most_places};
 ghost use Rattle.vrplib_model.specs.declared.position.Position.TheVariants.{Within};
 ghost use Rattle.vrplib_model.specs.declared.rule.Key.TheVariants.{EdgeWeightFormat, EdgeWeightType};
 ghost use Rattle.vrplib_model.specs.declared.rule.Rule.TheVariants.{Missing};
@@ -7,9 +8,10 @@ ghost use Rattle.vrplib_rows.specs.declared.weight_format.WeightFormat.TheVarian
 ghost use Rattle.vrplib_rows.specs.declared.weight_type.WeightType.TheVariants.{Euclidean, Explicit};
 ghost use Rattle.vrplib_model.specs.Checks.{broken_if, first_of};
 ghost use Rattle.vrplib_rows.specs.KnownKeywords.{is_format, is_weight_type, ForLines};
-ghost use Rattle.vrplib_model.specs.Keywords.{edge_weight_format, edge_weight_type};
+ghost use Rattle.vrplib_model.specs.declared.keyword.Keyword.TheVariants.{EdgeWeightFormat as edge_weight_format, EdgeWeightType as edge_weight_type};
 ghost use Rattle.vrplib_model.specs.Rows.{opened};
-ghost use Rattle.vrplib_model.specs.Sections.{Section, edge_weight_section};
+ghost use Rattle.vrplib_model.specs.declared.section.Section.{Section};
+ghost use Rattle.vrplib_model.specs.declared.section.Section.TheVariants.{EdgeWeight as edge_weight_section};
 ghost use Rattle.vrplib_model.specs.Values.{has_keyword, is_explicit};
 ghost use Rattle.vrplib_model.specs.WordFaults.{is_unsupported_section, section_lacks, weight_count};
 
@@ -22,7 +24,7 @@ impl Keywords {
     /// The number of nodes, or 0 where no line gave it.
     pub fn nodes(&self) -> u32
         ensures value { result ≡ unwrap_or self.now.dimension 0 }
-        ensures limit { result ≤ 2048 }
+        ensures limit { result ≤ most_places }
     {
         self.dimension.unwrap_or(0)
     }
@@ -30,7 +32,7 @@ impl Keywords {
     /// How many numbers the legs in the text have.
     pub fn weight_count(&self) -> u64
         ensures value { ForLines self.now (λ mode before. result ≡ weight_count mode before) }
-        ensures limit { result ≤ 2048 * 2048 }
+        ensures limit { result ≤ most_places * most_places }
     {
         let nodes = u64::from(self.nodes());
         if matches!(self.weight_format, Some(WeightFormat::FullMatrix)) {

@@ -34,7 +34,7 @@ pub(super) fn number(mode: Rounding, field: Field, token: &[u8]) -> Result<u64, 
         (λ rule. field_value mode field token.now ≡ Err rule) }
 {
     match field_value(mode, field, token) {
-        Ok(size) => Ok(size as u64),
+        Ok(number) => Ok(number.unsigned_abs()),
         Err(rule) => Err(rule),
     }
 }

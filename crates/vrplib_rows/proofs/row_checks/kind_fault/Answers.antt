@@ -1,4 +1,4 @@
-use Rattle.vrplib_model.specs.Sections.{group_section}
+use Rattle.vrplib_model.specs.declared.section.Section.TheVariants.{Group as group_section}
 use Rattle.vrplib_rows.proofs.RowTests.{kind_at_group, owned_along}
 use Rattle.vrplib_rows.proofs.row_checks.kind_fault.Goals as goal
 

@@ -1,5 +1,5 @@
 use Rattle.std.proofs.Common.{◌∙◌, refl}
-use Rattle.vrplib_model.specs.Sections.{edge_weight_section}
+use Rattle.vrplib_model.specs.declared.section.Section.TheVariants.{EdgeWeight as edge_weight_section}
 use Rattle.vrplib_read.proofs.ReadingLaws.{number_count-known}
 use Rattle.vrplib_read.proofs.reading.Reading.are_weights_short.Goals as goal
 

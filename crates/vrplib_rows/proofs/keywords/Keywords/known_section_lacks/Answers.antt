@@ -1,5 +1,5 @@
 use Rattle.std.proofs.Common.{sym, ◌∙◌}
-use Rattle.vrplib_model.specs.Keywords.{dimension}
+use Rattle.vrplib_model.specs.declared.keyword.Keyword.TheVariants.{Dimension as dimension}
 use Rattle.vrplib_rows.proofs.keywords.Keywords.known_section_lacks.Goals as goal
 
 pub returns-in-EdgeWeight-clause-value : goal.returns-in-EdgeWeight-clause-value

@@ -1,5 +1,5 @@
 use Rattle.std.proofs.Common.{sym, ◌∙◌, refl}
-use Rattle.vrplib_model.specs.Keywords.{edge_weight_type, edge_weight_format}
+use Rattle.vrplib_model.specs.declared.keyword.Keyword.TheVariants.{EdgeWeightType as edge_weight_type, EdgeWeightFormat as edge_weight_format}
 use Rattle.vrplib_rows.proofs.keywords.Keywords.weights_lack.Goals as goal
 use Rattle.vrplib_rows.proofs.keywords.Keywords.weights_lack.Goals.{else-is_explicit-via-then-is_explicit+else-not-is_given-2, else-is_explicit-via-else-is_explicit}
 

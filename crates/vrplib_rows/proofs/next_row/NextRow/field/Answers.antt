@@ -1,7 +1,8 @@
 use Rattle.std.proofs.Common.{◌≡◌, ◌<◌, ℕ, List, ℤ, length, subst, sym, Some}
 use Rattle.std.specs.Prelude.{slice_get}
 use Rattle.vrplib_model.specs.declared.field.Field.{Field}
-use Rattle.vrplib_model.specs.Sections.{Section, vehicle_types_section}
+use Rattle.vrplib_model.specs.declared.section.Section.{Section}
+use Rattle.vrplib_model.specs.declared.section.Section.TheVariants.{VehicleTypes as vehicle_types_section}
 use Rattle.vrplib_model.specs.Rows.{fields}
 use Rattle.vrplib_rows.proofs.next_row.NextRow.field.Goals as goal
 
