@@ -183,10 +183,6 @@ below-opened s found before lacking e = elim (lacks-dimension found before lacki
   | inr given ↦ given
 ]
 
-given-later : (given : Bool) (value : List (List ℕ)) (before : List Line) → has_keyword dimension before ≡ true → is_some (if given then Some value else value_tokens dimension before) ≡ true
-given-later true value before e = refl
-given-later false value before e = e
-
 below-step : (mode : Rounding) (before : List Line) (line : Line) → AreGood mode before → IsGoodLine mode before line → (s : Section)
     → is_within s (next_position (line ∷ before)) ≡ true → has_keyword dimension (line ∷ before) ≡ true
 below-step mode before empty good h s e = good.below s e

@@ -21,9 +21,6 @@ pub record Reads (mode : Rounding) (all rest : List (List ℕ)) (number : ℕ) (
   pub same_fault : first_fault mode [] all ≡ first_fault mode before rest
   pub same_lines : lines_onto [] all ≡ lines_onto before rest
 
-pub reads-none : (mode : Rounding) (all : List (List ℕ)) (r : Reading) → Stands mode [] r → Reads mode all all 1 r
-reads-none mode all r h = record { before = []; stands = h; counted = refl; same_fault = refl; same_lines = refl }
-
 -- the first line that is left is faulty
 fault-here : (mode : Rounding) (before : List Line) (text : List ℕ) (rest : List (List ℕ)) (rule : Rule) → Some rule ≡ fault_of mode before text
     → first_fault mode before (text ∷ rest) ≡ Some (record { line = length before + 1; rule = rule })
@@ -100,10 +97,6 @@ reads-all mode all rest number r fault h m e ends =
     ends h.before (subst (λ mode. Stands mode h.before r) (sym m) h.stands) ∙ ap (λ mode. broken_if (is_short mode h.before) RowCount) m in
     sym (h.same_fault ∙ (ap (first_fault mode h.before) e ∙ (at-end mode h.before ∙ (ap (refusal_if h.before) (sym short)
     ∙ ap (λ n. option_map (λ rule. record { line = n; rule = rule }) fault) (sym h.counted)))))
-
-pub reads-lines : (mode : Rounding) (all rest : List (List ℕ)) (number : ℕ) (r : Reading) → Reads mode all rest number r → rest ≡ [] → Stands mode (lines_onto [] all) r
-reads-lines mode all rest number r h e =
-    subst (λ lines. Stands mode lines r) (sym (h.same_lines ∙ ap (lines_onto h.before) e)) h.stands
 
 pub reads-mode : (mode : Rounding) (all rest : List (List ℕ)) (number : ℕ) (r : Reading) → Reads mode all rest number r → r.mode ≡ mode
 reads-mode mode all rest number r h = h.stands.same_mode

@@ -4,7 +4,7 @@ use Rattle.std.specs.Prelude.{if◌then◌else◌, option_map, is_some}
 use Rattle.std.specs.Option.{ForSome}
 use Rattle.std.specs.Map.{lookup}
 use denote.Enum.Bare.{sameb}
-use Rattle.vrplib_read.specs.contracts.section.Section.{the_type}
+use Rattle.vrplib_model.specs.contracts.section.Section.{the_type}
 use Rattle.vrplib_model.specs.declared.section.Section.{Section}
 use Rattle.vrplib_model.specs.Sections.{same_section}
 use Rattle.vrplib_rows.specs.KeptRows.{Listed}

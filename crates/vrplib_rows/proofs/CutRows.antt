@@ -58,22 +58,3 @@ rows_cut-append start [] numbers row o =
 rows_cut-append start (end ∷ ends) numbers row o =
     ap (λ r. r ∷ rows_cut end (ends ++ (length numbers + length row) ∷ []) (numbers ++ row)) (range_before numbers row start end o.0 (last_above end ends (length numbers) o.1))
     ∙ ap (λ rs. slice_range numbers start end ∷ rs) (rows_cut-append end ends numbers row o.1)
-
--- no rows yet
-pub kept_none : (s : Section) (nodes marks : ℕ) (owners : List ℕ) → nodes ≤ 2048 → owners ≡ replicate (nodes + 1) 0 → marks ≡ nodes + 1 → IsKeptAs s nodes [] [] owners marks
-kept_none s nodes marks owners h o m = record {
-  limit = h;
-  ordered = refl;
-  each = λ k d lt. absurd (omega arith);
-  owners_are = record {
-    one_each = ap length o ∙ length-replicate (nodes + 1) 0;
-    owned = λ n l. ap (λ ns. get_or ns n 0) o ∙ get_or-replicate (nodes + 1) n 0 0 (omega arith);
-    apart = λ t. refl;
-  };
-  one_mark_each = m;
-}
-
--- the first row that names a node, by the number that is kept
-pub first_from_number : (o : Option ℕ) (m : ℕ) → m ≡ option_map_or suc o 0 → (m ≡ 0 → None ≡ o) × (m ≢ 0 → Some (m - 1) ≡ o)
-first_from_number None m e = (λ _. refl, λ ne. absurd (ne e))
-first_from_number (Some k) m e = (λ z. absurd (omega arith), λ _. ap Some (omega arith))

@@ -81,17 +81,3 @@ apart_more marked xs i x h r m none apart =
 -- only numbers of the list are marked
 pub record AreMarkedIn (marked : List Bool) (xs : List ℕ) : Type 0 where
   pub each : (n : ℕ) → contains n xs ≡ false → get_or marked n false ≡ false
-
--- one mark less
-pub marked_less : (marked : List Bool) (xs : List ℕ) (i x : ℕ) → i < length xs → x ≡ get_or xs i x → x < length marked → AreMarkedIn marked (drop i xs) → AreMarkedIn (set marked x false) (drop (i + 1) xs)
-marked_less marked xs i x h r w m =
-    let more : drop i xs ≡ x ∷ drop (i + 1) xs = drop_more xs i x h ∙ ap (λ y. y ∷ drop (i + 1) xs) (sym r) in
-    record {
-      each = λ n out.
-          (let same : n ≡ x → get_or (set marked x false) n false ≡ false = λ e.
-          let P : ℕ → Type 0 = λ k. get_or (set marked x false) k false ≡ false in
-          subst P (sym e) (get_or-set_same marked x false false w) in
-          let other : (n ≡ x → ⊥) → get_or (set marked x false) n false ≡ false = λ ne.
-          get_or-set_other marked x n false false ne ∙ m.each n (ap (λ ys. contains n ys) more ∙ or_from _ _ (ne_eqb x n (λ e. ne (sym e))) out) in
-          ⊎_elim same other (cases_eq n x));
-    }

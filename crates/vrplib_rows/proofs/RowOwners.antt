@@ -165,18 +165,3 @@ owned_twice m number c d = ⊎_elim
 -- the owners, once these nodes are owned
 pub record AreOwnedBy (number : ℕ) (before after named : List ℕ) : Type 0 where
   pub each : (n : ℕ) → slice_index after n ≡ cond (eqb (slice_index before n) 0 && contains n named) number (slice_index before n)
-
-pub none_owned : (number : ℕ) (owners : List ℕ) → AreOwnedBy number owners owners []
-none_owned number owners = record { each = λ n. sym (ap (λ b. cond b number (slice_index owners n)) (and_false (eqb (slice_index owners n) 0))) }
-
--- one more is owned
-pub one_more_owned : (number : ℕ) (before after next named : List ℕ) (i x : ℕ) → i < length named → x ≡ get_or named i x → AreOwnedBy number before after (take i named)
-    → ((n : ℕ) → slice_index next n ≡ cond (eqb (slice_index after n) 0 && eqb x n) number (slice_index after n)) → AreOwnedBy number before next (take (i + 1) named)
-one_more_owned number before after next named i x h r o each =
-    let more : take (i + 1) named ≡ take i named ++ x ∷ [] = take_more named i x h ∙ ap (λ y. take i named ++ y ∷ []) (sym r) in
-    record {
-      each = λ n.
-          (each n ∙ ap (λ m. cond (eqb m 0 && eqb x n) number m) (o.each n) ∙ owned_twice (slice_index before n) number (contains n (take i named)) (eqb x n)
-          ∙ ap (λ b. cond (eqb (slice_index before n) 0 && b) number (slice_index before n))
-          (sym (list_any-append (λ m. m == n) (take i named) (x ∷ []) ∙ ap (λ b. contains n (take i named) || b) (or_false (eqb x n))) ∙ ap (contains n) (sym more)));
-    }

@@ -44,17 +44,6 @@ pub record Walks (mode : Rounding) (fs : List Field) (line rest : List (List ℕ
   pub broken : first_broken (field_values mode (drop (length row) fs) rest) ≡ first_broken (field_values mode fs line)
   pub numbers_so_far : row ++ numbers (field_values mode (drop (length row) fs) rest) ≡ numbers (field_values mode fs line)
 
-pub walks_start : (mode : Rounding) (fs : List Field) (line : List (List ℕ)) → Walks mode fs line line []
-walks_start mode fs line = record { count = omega arith; broken = refl; numbers_so_far = refl }
-
-pub broken_at_end : (mode : Rounding) (fs : List Field) (line rest : List (List ℕ)) (row : List ℤ) → Walks mode fs line rest row → rest ≡ [] → first_broken (field_values mode fs line) ≡ None
-broken_at_end mode fs line rest row w e = sym w.broken ∙ ap (λ ts. first_broken (field_values mode (drop (length row) fs) ts)) e ∙ ap first_broken (no_tokens mode (drop (length row) fs))
-
-pub numbers_at_end : (mode : Rounding) (fs : List Field) (line rest : List (List ℕ)) (row : List ℤ) → Walks mode fs line rest row → rest ≡ [] → row ≡ numbers (field_values mode fs line)
-numbers_at_end mode fs line rest row w e =
-    sym (append-nil row) ∙ sym (ap (λ ts. row ++ numbers (field_values mode (drop (length row) fs) ts)) e ∙ ap (λ vs. row ++ numbers vs) (no_tokens mode (drop (length row) fs)))
-    ∙ w.numbers_so_far
-
 values_ahead : (mode : Rounding) (fs : List Field) (rest after : List (List ℕ)) (k : ℕ) (token : List ℕ) (f : Field) → rest ≡ token ∷ after → slice_get fs k ≡ Some f
     → field_values mode (drop k fs) rest ≡ field_value mode f token ∷ field_values mode (drop (k + 1) fs) after
 values_ahead mode fs rest after k token f e there =
