@@ -1,4 +1,4 @@
--- More values of the reader: each rule, and each kind of section, closed by computation.
+-- More examples of what a text is read as: each rule, and each section, closed by computation.
 use Rattle.std.proofs.Common.{◌≡◌, ℕ, ◌^◌, ◌*◌, List, [], ◌∷◌, ◌++◌, refl, Ok, Err, codes, Some, None, Result, Option}
 use Rattle.list_words.specs.Texts.{line}
 use Rattle.problem_data.specs.declared.problem.Problem.{Problem}

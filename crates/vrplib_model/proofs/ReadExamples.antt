@@ -1,4 +1,4 @@
--- Worked values of the reader, closed by computation.
+-- Examples of what a text is read as, closed by computation.
 use Rattle.std.proofs.Common.{◌≡◌, ℕ, ◌^◌, ◌*◌, [], ◌∷◌, ◌++◌, pos, refl, Ok, Err, codes, None, take, Result}
 use Rattle.list_words.specs.Texts.{line}
 use Rattle.problem_data.specs.declared.problem.Problem.{Problem}

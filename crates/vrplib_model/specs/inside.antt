@@ -1,2 +1,2 @@
--- Words that only invariants, private contracts and proofs cite.
+-- Words that the definitions don't need: the laws' proofs and the reader's own contracts cite them.
 pub mod FaultlessRows

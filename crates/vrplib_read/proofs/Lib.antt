@@ -1,4 +1,3 @@
-pub mod Answered
 pub mod Driven
 pub mod GroupLaws
 pub mod LegBounds
@@ -9,5 +8,4 @@ pub mod RowLaws
 pub mod SectionKeys
 pub mod SectionMaps
 pub mod Standing
-pub mod TypeLaws
 pub mod WholeLaws

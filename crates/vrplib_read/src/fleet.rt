@@ -126,7 +126,10 @@ pub(crate) fn has_wrong_reference(depots: u32, profiles: usize, vehicle_type: &V
     ensures { result ≡ has_wrong_reference depots profiles vehicle_type.now }
 {
     let all_reloads = are_depots(depots, vehicle_type.reload_depots.items());
-    !(vehicle_type.start < depots && vehicle_type.end < depots && all_reloads && (vehicle_type.profile as usize) < profiles)
+    !(vehicle_type.start < depots
+        && vehicle_type.end < depots
+        && all_reloads
+        && (vehicle_type.profile as usize) < profiles)
 }
 
 /// Whether all places are depots.

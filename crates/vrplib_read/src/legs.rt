@@ -14,7 +14,7 @@ use crate::entries::{node_count, number_at};
 use crate::reading::Reading;
 use problem_data::Place;
 use std::alloc::{AllocError, Global};
-use vrp_num::{euclid, Rounding};
+use vrp_num::{Rounding, euclid};
 use vrplib_model::Section;
 use vrplib_rows::{Rows, WeightFormat, WeightType};
 

@@ -13,7 +13,7 @@ use problem_data::Problem;
 use std::alloc::{AllocError, Global};
 use vrp_num::Rounding;
 use vrplib_model::Refusal;
-use vrplib_rows::{line_of, next_line, Line};
+use vrplib_rows::{Line, line_of, next_line};
 
 /// Whether a line of the text is `EOF`, which ends the reading.
 fn is_end(text: &[u8]) -> bool

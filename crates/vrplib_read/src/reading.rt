@@ -16,7 +16,7 @@ use indexmap::IndexMap;
 use std::alloc::{AllocError, Global};
 use vrp_num::Rounding;
 use vrplib_model::{Position, Rule, Section};
-use vrplib_rows::{line_of, Keywords, Line, Rows};
+use vrplib_rows::{Keywords, Line, Rows, line_of};
 
 /// What the reader keeps of the lines read so far: the values of keywords, and the sections with their rows, in the order of
 /// the file.

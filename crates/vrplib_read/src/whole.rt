@@ -69,9 +69,7 @@ fn profile_count(reading: &Reading) -> usize
 fn has_bad_vehicle(depots: u32, profiles: usize, types: &[VehicleType]) -> bool
     ensures { result ≡ list_any (has_wrong_reference depots profiles) types.now }
 {
-    types
-        .iter()
-        .any(|vehicle_type| has_wrong_reference(depots, profiles, vehicle_type))
+    types.iter().any(|vehicle_type| has_wrong_reference(depots, profiles, vehicle_type))
 }
 
 /// Whether a depot is among the places.

@@ -12,14 +12,22 @@ fn outcome(
     keyword: &str,
     token: &str,
 ) -> Result<Result<Problem, ReadFault>, AllocError> {
-    let text = format!(in alloc; "DIMENSION : 2\n{keyword} : {token}\nEDGE_WEIGHT_TYPE : EUC_2D\nNODE_COORD_SECTION\n1 0 0\n2 3 4\n")?;
+    let text = format!(in alloc;
+        "DIMENSION : 2\n{keyword} : {token}\nEDGE_WEIGHT_TYPE : EUC_2D\nNODE_COORD_SECTION\n1 0 0\n2 3 4\n"
+    )?;
     Ok(read_instance(alloc, text.as_bytes(), mode))
 }
 
 /// The capacity of the first vehicle type, or the refusal.
 fn capacity(outcome: Result<Problem, ReadFault>) -> Result<Option<u64>, ReadFault> {
     let problem = outcome?;
-    Ok(problem.types.items().first().map(|vehicle_type| vehicle_type.capacity))
+    Ok(
+        problem
+            .types
+            .items()
+            .first()
+            .map(|vehicle_type| vehicle_type.capacity),
+    )
 }
 
 /// The service of the first client, or the refusal.

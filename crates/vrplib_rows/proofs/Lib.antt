@@ -1,5 +1,4 @@
 pub mod CutRows
-pub mod FieldValues
 pub mod KeywordLaws
 pub mod LineLaws
 pub mod LongRowLaws

@@ -140,28 +140,6 @@ owned_more s nodes rows row owners named after number o name is same apart each 
           ∙ repeated_comm (flat_map f rows) (f row) ∙ apart t);
     }
 
-same_both : {X : Type 0} (b : Bool) (x : X) → cond b x x ≡ x
-same_both true x = refl
-same_both false x = refl
-
-and_false : (b : Bool) → (b && false) ≡ false
-and_false true = refl
-and_false false = refl
-
-owned_both : (m number : ℕ) (c d : Bool) → eqb m 0 ≡ true → cond (eqb (cond c number m) 0 && d) number (cond c number m) ≡ cond (c || d) number m
-owned_both m number true d e = same_both (eqb number 0 && d) number
-owned_both m number false d e = ap (λ b. cond (b && d) number m) e
-
-owned_twice : (m number : ℕ) (c d : Bool) → cond (eqb (cond (eqb m 0 && c) number m) 0 && d) number (cond (eqb m 0 && c) number m) ≡ cond (eqb m 0 && (c || d)) number m
-owned_twice m number c d = ⊎_elim
-    (λ (e : m ≡ 0).
-    let zero_is : eqb m 0 ≡ true = eq-eqb m 0 e in
-    ap (λ b. cond (eqb (cond (b && c) number m) 0 && d) number (cond (b && c) number m)) zero_is ∙ owned_both m number c d zero_is ∙ sym (ap (λ b. cond (b && (c || d)) number m) zero_is))
-    (λ (ne : m ≡ 0 → ⊥).
-    let other_is : eqb m 0 ≡ false = ne_eqb m 0 ne in
-    ap (λ b. cond (eqb (cond (b && c) number m) 0 && d) number (cond (b && c) number m)) other_is ∙ ap (λ b. cond (b && d) number m) other_is ∙ sym (ap (λ b. cond (b && (c || d)) number m) other_is))
-    (cases_eq m 0)
-
 -- the owners, once these nodes are owned
 pub record AreOwnedBy (number : ℕ) (before after named : List ℕ) : Type 0 where
   pub each : (n : ℕ) → slice_index after n ≡ cond (eqb (slice_index before n) 0 && contains n named) number (slice_index before n)

@@ -34,10 +34,6 @@ drop_get [] k x h = cc
 drop_get (y ∷ ys) zero x h = let same : y ≡ x = cc in ap (λ z. z ∷ ys) same
 drop_get (y ∷ ys) (suc k) x h = let e : suc (k + 1) ≡ suc k + 1 = omega arith in drop_get ys k x h ∙ ap (λ m. x ∷ drop m (y ∷ ys)) e
 
-no_tokens : (mode : Rounding) (fs : List Field) → field_values mode fs [] ≡ []
-no_tokens mode [] = refl
-no_tokens mode (f ∷ fs) = refl
-
 -- the numbers of the tokens before these are read, and none of them breaks a rule
 pub record Walks (mode : Rounding) (fs : List Field) (line rest : List (List ℕ)) (row : List ℤ) : Type 0 where
   pub count : length row + length rest ≡ length line

@@ -8,10 +8,10 @@ mod value;
 
 use crate::weight_format::WeightFormat;
 use crate::weight_type::WeightType;
-use value::{is_unsupported_value, number, only_token, weight_format, weight_type};
 use problem_data::{LARGEST, MOST_PLACES, MOST_VEHICLES};
+use value::{is_unsupported_value, number, only_token, weight_format, weight_type};
 use vrp_num::Rounding;
-use vrplib_model::{is_distance, is_of_vehicles, Field, Keyword, Rule};
+use vrplib_model::{Field, Keyword, Rule, is_distance, is_of_vehicles};
 
 /// The values of the keywords read so far, each where a line gave it.
 #[derive(Clone, Copy, Debug, PartialEq, Eq)]
@@ -95,13 +95,17 @@ impl Keywords {
     {
         match keyword {
             Keyword::Dimension => {
-                self.dimension = Some(number(mode, Field::Between(2, u64::from(MOST_PLACES)), token)? as u32);
+                self.dimension = Some(
+                    number(mode, Field::Between(2, u64::from(MOST_PLACES)), token)? as u32,
+                );
             }
             Keyword::EdgeWeightType => self.weight_type = weight_type(token),
             Keyword::EdgeWeightFormat => self.weight_format = Some(weight_format(token)),
             Keyword::Capacity => self.capacity = Some(number(mode, Field::Whole(LARGEST), token)?),
             Keyword::Vehicles => {
-                self.vehicles = Some(number(mode, Field::Between(1, u64::from(MOST_VEHICLES)), token)? as u32);
+                self.vehicles = Some(
+                    number(mode, Field::Between(1, u64::from(MOST_VEHICLES)), token)? as u32,
+                );
             }
             Keyword::ServiceTime => {
                 self.service_time = Some(number(mode, Field::Rounded(LARGEST), token)?);

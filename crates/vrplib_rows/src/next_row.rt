@@ -6,7 +6,9 @@ ghost use Rattle.vrplib_model.specs.Rows.{fields, vehicle_count};
 ghost use Rattle.vrplib_model.specs.declared.section.Section.TheVariants.{VehicleTypes as vehicle_types_section};
 ghost use Rattle.vrplib_rows.specs.inside.NextRows.{Follows};
 
-use problem_data::{LARGEST, LARGEST_LEG, LARGEST_UNIT_COST, MOST_PROFILES, MOST_RELOADS, UNLIMITED};
+use problem_data::{
+    LARGEST, LARGEST_LEG, LARGEST_UNIT_COST, MOST_PROFILES, MOST_RELOADS, UNLIMITED,
+};
 use vrplib_model::{Field, Section};
 
 /// The largest factor of a profile, in thousandths.

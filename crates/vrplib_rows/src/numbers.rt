@@ -6,7 +6,7 @@ ghost use Rattle.vrplib_model.specs.Numbers.{◌|>◌, number_or, too_large_rule
 ghost use Rattle.vrplib_model.specs.declared.rule.Rule.TheVariants.{BadNumber, Limit};
 
 use problem_data::LARGEST;
-use vrp_num::{round, Decimal, NumberFault, Rounding, Spelled};
+use vrp_num::{Decimal, NumberFault, Rounding, Spelled, round};
 use vrplib_model::{Field, Rule};
 
 /// How many millionths -1 is.

@@ -18,7 +18,7 @@ use crate::owners::own;
 use crate::row_checks::numbers_fault;
 use crate::row_nodes::{name_nodes, number_at};
 use crate::row_numbers::read_numbers;
-use crate::row_shape::{excess, has_right_length, Counts};
+use crate::row_shape::{Counts, excess, has_right_length};
 use crate::tokens::token_count;
 use problem_data::MOST_VEHICLES;
 use std::alloc::{AllocError, Global};

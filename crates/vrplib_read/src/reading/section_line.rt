@@ -15,7 +15,7 @@ ghost use Rattle.vrplib_model.specs.WordFaults.{is_unsupported_section, repeats_
 use crate::reading::Reading;
 use crate::reading::section_map::put_rows;
 use std::alloc::{AllocError, Global};
-use vrplib_model::{is_of_vehicles, Rule, Section};
+use vrplib_model::{Rule, Section, is_of_vehicles};
 use vrplib_rows::Rows;
 
 impl Reading {
