@@ -1,5 +1,5 @@
 -- What a text says of each node: the entry in the row of that node, in the section that gives it.
-use Rattle.std.specs.Prelude.{ℕ, zero, suc, ◌+◌, ◌-◌, ◌^◌, ◌==◌, if◌then◌else◌, List, [], ◌∷◌, length, find, ℤ, pos, Option, unwrap_or}
+use Rattle.std.specs.Prelude.{ℕ, zero, suc, ◌+◌, ◌-◌, ◌==◌, if◌then◌else◌, List, [], ◌∷◌, length, find, ℤ, pos, Option, unwrap_or}
 use Rattle.std.specs.Option.{option_map_or}
 use Rattle.problem_data.specs.Limits.{largest}
 use Rattle.problem_data.specs.declared.problem.Window.{Window}

@@ -1,5 +1,5 @@
 -- The vehicle types that a text gives.
-use Rattle.std.specs.Prelude.{ℕ, ◌-◌, ◌^◌, if◌then◌else◌, List, [], ◌∷◌, map, drop, ℤ, unwrap_or}
+use Rattle.std.specs.Prelude.{ℕ, ◌-◌, if◌then◌else◌, List, [], ◌∷◌, map, drop, ℤ, unwrap_or}
 use Rattle.problem_data.specs.Limits.{largest, unlimited}
 use Rattle.problem_data.specs.declared.problem.Window.{Window}
 use Rattle.problem_data.specs.declared.problem.VehicleType.{VehicleType}

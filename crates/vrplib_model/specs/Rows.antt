@@ -1,5 +1,5 @@
 -- The rows of each section in the lines read so far, which are given the nearest first.
-use Rattle.std.specs.Prelude.{ℕ, ◌+◌, ◌-◌, ◌*◌, ◌^◌, Bool, false, if◌then◌else◌, List, [], ◌∷◌, ◌++◌, length, sum_by, replicate, flat_map, ℤ, pos, negsuc, Option, Some, None, bytes_eq}
+use Rattle.std.specs.Prelude.{ℕ, ◌+◌, ◌-◌, Bool, false, if◌then◌else◌, List, [], ◌∷◌, ◌++◌, length, sum_by, replicate, flat_map, ℤ, pos, negsuc, Option, Some, None, bytes_eq}
 use Rattle.std.specs.List.{list_any}
 use Rattle.problem_data.specs.Limits.{largest, largest_leg, largest_unit_cost, most_profiles, most_reloads, most_vehicles, unlimited}
 use Rattle.vrp_num.specs.declared.rounding.Rounding.{Rounding}

@@ -1,5 +1,5 @@
 -- The values of keywords in the lines read so far, which are given the nearest first.
-use Rattle.std.specs.Prelude.{ℕ, ◌^◌, Bool, false, if◌then◌else◌, List, [], ◌∷◌, ℤ, nat_abs, Option, Some, None, Result, Ok, Err, is_some, option_map, option_and_then, unwrap_or, codes, bytes_eq}
+use Rattle.std.specs.Prelude.{ℕ, Bool, false, if◌then◌else◌, List, [], ◌∷◌, ℤ, nat_abs, Option, Some, None, Result, Ok, Err, is_some, option_map, option_and_then, unwrap_or, codes, bytes_eq}
 use Rattle.problem_data.specs.Limits.{largest, most_places, most_vehicles}
 use Rattle.vrp_num.specs.declared.rounding.Rounding.{Rounding}
 use Rattle.vrplib_model.specs.declared.rule.Rule.{Rule}

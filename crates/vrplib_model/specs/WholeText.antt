@@ -1,7 +1,7 @@
 -- The faults of a text as a whole, where no line is faulty. The lines are given the nearest to the end first.
-use Rattle.std.specs.Prelude.{ℕ, ◌+◌, ◌*◌, ◌^◌, Bool, not, ◌&&◌, ◌||◌, nat_lt, nat_le, max, min, List, [], ◌∷◌, length, Option, bytes_eq}
+use Rattle.std.specs.Prelude.{ℕ, ◌+◌, Bool, not, ◌&&◌, ◌||◌, nat_lt, nat_le, max, min, List, [], ◌∷◌, length, Option, bytes_eq}
 use Rattle.std.specs.List.{list_any, list_all}
-use Rattle.problem_data.specs.Limits.{largest, largest_leg}
+use Rattle.problem_data.specs.Limits.{largest_leg}
 use Rattle.problem_data.specs.declared.problem.Window.{Window}
 use Rattle.problem_data.specs.declared.problem.VehicleType.{VehicleType}
 use Rattle.problem_data.specs.declared.problem.Profile.{Profile}

@@ -1,10 +1,8 @@
 -- Rows that are kept one after the other.
-use Rattle.std.proofs.Common.{◌≡◌, ◌≢◌, ◌+◌, ◌-◌, ◌<◌, ◌≤◌, ℕ, zero, suc, List, [], ◌∷◌, ◌++◌, length, get_or, take, drop, refl, sym, ◌∙◌, ap, arith, ℤ, Option, Some, None}
-use Rattle.std.specs.Prelude.{flat_map, slice_get, slice_range, replicate}
-use Rattle.std.specs.Option.{option_map_or}
-use Rattle.std.proofs.lemmas.List.{drop-drop, drop_all, drop-append-le, drop_at, get_or-replicate, length-drop, length-replicate, take-append-drop, take-append-le, take_all}
-use Rattle.vrplib_rows.specs.inside.RowTables.{EndInOrder, IsKeptAs, rows_cut}
-use Rattle.vrplib_model.specs.declared.section.Section.{Section}
+use Rattle.std.proofs.Common.{◌≡◌, ◌+◌, ◌-◌, ◌<◌, ◌≤◌, ℕ, zero, suc, List, [], ◌∷◌, ◌++◌, length, get_or, take, drop, refl, sym, ◌∙◌, ap, arith, ℤ, Some}
+use Rattle.std.specs.Prelude.{flat_map, slice_get, slice_range}
+use Rattle.std.proofs.lemmas.List.{drop-drop, drop_all, drop-append-le, drop_at, length-drop, take-append-drop, take-append-le, take_all}
+use Rattle.vrplib_rows.specs.inside.RowTables.{EndInOrder, rows_cut}
 
 -- where the k-th row begins
 abbrev pub start_of : ℕ → List ℕ → ℕ → ℕ

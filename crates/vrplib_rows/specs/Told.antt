@@ -1,5 +1,4 @@
 -- The line that pieces of the text tell.
-use Rattle.std.specs.Prelude.{List}
 use Rattle.vrplib_model.specs.Lines.{tokens}
 use Rattle.vrplib_model.specs.LineKinds.{Line, empty, end_of_file, section_line, keyword_line, word_line, row}
 use Rattle.vrplib_rows.specs.declared.line.Line.{Line as ToldLine}

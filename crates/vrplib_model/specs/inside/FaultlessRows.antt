@@ -1,5 +1,5 @@
 -- What each faultless row of a section is: the bounds of its numbers, which its fields and checks give.
-use Rattle.std.specs.Prelude.{◌≡◌, ℕ, ◌*◌, ◌^◌, ◌≤◌, ◌⊎◌, List, length, drop, All, ℤ, pos, negsuc, nat_abs, ◌≤ℤ◌}
+use Rattle.std.specs.Prelude.{◌≡◌, ℕ, ◌≤◌, ◌⊎◌, List, length, drop, All, ℤ, pos, negsuc, nat_abs, ◌≤ℤ◌}
 use Rattle.problem_data.specs.Limits.{largest, largest_leg, largest_unit_cost, most_profiles, most_reloads, most_vehicles, unlimited}
 use Rattle.vrplib_model.specs.Sections.{Section, node_coord_section, time_window_section, edge_weight_section, depot_section, group_section, profile_section, vehicle_types_section}
 use Rattle.vrplib_model.specs.Numbers.{int_at, number_at}

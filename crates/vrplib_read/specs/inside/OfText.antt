@@ -1,9 +1,9 @@
 -- What holds of each text that the reader's state stands for.
-use Rattle.std.specs.Prelude.{ℕ, ◌<◌, ◌+◌, ◌*◌, ◌/◌, ◌^◌, Bool, ◌&&◌, ◌||◌, ◌==◌, nat_lt, nat_le, if◌then◌else◌, List, [], ℤ, pos, negsuc, Option, Some, None, unwrap_or, length, bytes_eq, map, flat_map, drop}
+use Rattle.std.specs.Prelude.{ℕ, ◌<◌, ◌+◌, ◌*◌, ◌/◌, Bool, ◌&&◌, ◌||◌, ◌==◌, nat_lt, nat_le, if◌then◌else◌, List, [], ℤ, pos, negsuc, Option, Some, None, unwrap_or, length, bytes_eq, map, flat_map, drop}
 use Rattle.std.specs.List.{list_any}
 use Rattle.std.specs.Option.{option_map_or}
 use Rattle.indexmap.specs.IndexMap.{get}
-use Rattle.problem_data.specs.Limits.{largest, largest_leg}
+use Rattle.problem_data.specs.Limits.{largest_leg}
 use Rattle.problem_data.specs.declared.problem.Place.{Place}
 use Rattle.problem_data.specs.declared.problem.Profile.{Profile}
 use Rattle.problem_data.specs.declared.problem.VehicleType.{VehicleType}

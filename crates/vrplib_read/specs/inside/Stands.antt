@@ -1,5 +1,5 @@
 -- How what the reader keeps stands to the lines read so far, which are given the nearest first.
-use Rattle.std.specs.Prelude.{◌≡◌, Bool, true, false, List, [], Option, Some, None}
+use Rattle.std.specs.Prelude.{◌≡◌, true, false, List, [], Option, Some, None}
 use Rattle.indexmap.specs.IndexMap.{get}
 use Rattle.vrp_num.specs.declared.rounding.Rounding.{Rounding}
 use Rattle.vrplib_read.specs.declared.reading.Reading.{Reading}
