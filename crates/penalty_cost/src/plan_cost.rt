@@ -1,10 +1,13 @@
 //! What plans cost and exceed.
 ghost use Rattle.std.specs.Prelude.{◌≡◌, ◌+◌, ◌*◌, ◌<◌, ◌≤◌, List, length, pos, sum_by};
 ghost use Rattle.problem_data.specs.declared.visit.Visit.{Visit};
+ghost use Rattle.problem_data.specs.Limits.{most_vehicles};
 ghost use Rattle.problem_data.specs.Places.{type_at, type_of, vehicle_count};
 ghost use Rattle.problem_data.specs.Reads.{RoseAtMost};
 ghost use Rattle.routing_model.specs.Cost.{route_cost, solution_cost};
-ghost use Rattle.penalty_cost.specs.Totals.{IsDrivable, IsDrivablePlan, IsWeighed, most_cost, vehicles_cost};
+ghost use Rattle.routing_model.specs.Listed.{IsListed};
+ghost use Rattle.penalty_cost.specs.Plans.{IsDrivablePlan, IsWeighed};
+ghost use Rattle.penalty_cost.specs.inside.Totals.{most_cost, vehicles_cost};
 
 use crate::prizes::missed_prizes;
 use crate::vehicle_cost::vehicle_cost;
@@ -26,7 +29,7 @@ pub fn route_cost(
     reads: &mut Steps<Reads>,
 ) -> i128
     requires vehicle { vehicle < vehicle_count given.now }
-    requires drivable { IsDrivable given.now visits.now }
+    requires listed { IsListed given.now visits.now }
     requires weights { IsWeighed weights }
     ensures cost { result ≡ pos (route_cost given.now weights (type_at given.now (type_of given.now vehicle)) visits.now) }
     ensures reads { RoseAtMost (length visits.now + 1) reads.old reads.new }
@@ -44,10 +47,10 @@ fn vehicles_cost(
     requires plan { IsDrivablePlan given.now routes.now }
     requires weights { IsWeighed weights }
     ensures value { result ≡ vehicles_cost given.now weights routes.now }
-    ensures short { result ≤ 2048 * most_cost }
+    ensures short { result ≤ most_vehicles * most_cost }
     ensures reads { RoseAtMost (sum_by (λ (visits : List Visit). length visits + 1) routes.now) reads.old reads.new }
 {
-    let _vehicles = given.vehicles();
+    given.vehicles();
     let mut cost = 0;
     for (vehicle, visits) in routes.iter().enumerate() {
         cost += vehicle_cost(given, vehicle as u32, visits.items(), weights, reads);

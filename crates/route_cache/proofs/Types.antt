@@ -6,7 +6,8 @@ use Rattle.problem_data.specs.declared.problem.Problem.{Problem}
 use Rattle.problem_data.specs.declared.problem.VehicleType.{VehicleType}
 use Rattle.problem_data.specs.Places.{no_window, type_at}
 use Rattle.problem_data.specs.Valid.{IsValid, IsValidType}
-use Rattle.route_cache.specs.Routes.{IsTypeFor, type_of_vehicle}
+use Rattle.routing_model.specs.Listed.{type_of_vehicle}
+use Rattle.route_cache.specs.Routes.{IsTypeFor}
 
 abbrev pub no_type : VehicleType
 no_type = record { count = 0; capacity = 0; start = 0; end = 0; fixed = 0; unit_distance = 0; unit_duration = 0; shift = no_window; max_duration = 0; max_distance = 0; profile = 0; reloads = 0; reload_depots = [] }

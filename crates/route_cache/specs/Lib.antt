@@ -1,4 +1,3 @@
 pub mod Caching
 pub mod Routes
-pub mod Sections
 pub mod Views

@@ -9,12 +9,12 @@ use Rattle.routing_model.specs.Lawful.{names_place}
 use Rattle.trips.specs.declared.trip_segment.TripSegment.{TripSegment}
 use Rattle.trips.specs.Runs.{run_stops}
 use Rattle.trips.specs.Standing.{StandsForRun}
-use Rattle.route_cache.specs.declared.sections.Section.{Section}
+use Rattle.trips.specs.declared.run_segment.RunSegment.{RunSegment}
 use Rattle.route_cache.specs.Routes.{IsTypeFor, ViewState, run_of}
-use Rattle.route_cache.specs.Sections.{HoldsRun}
+use Rattle.trips.specs.RunSegments.{HoldsRun}
 
 -- a view of a valid problem, with what its run adds up to
-pub record IsView (view : ViewState) (section : Section) : Type 0 where
+pub record IsView (view : ViewState) (section : RunSegment) : Type 0 where
   pub valid : IsValid view.problem
   pub named : IsTrue (list_all (names_place view.problem) view.list)
   pub in_order : view.first ≤ view.end

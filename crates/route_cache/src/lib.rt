@@ -6,7 +6,6 @@
 
 mod kept;
 mod route;
-mod sections;
 #[cfg(test)]
 mod tests;
 mod view;

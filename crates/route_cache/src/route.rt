@@ -8,7 +8,7 @@ ghost use Rattle.trips.specs.Conditions.{IsSoundRoute};
 ghost use Rattle.trips.specs.Spans.{spans_from, trips_in};
 ghost use Rattle.trips.specs.Standing.{StandsForRoute};
 ghost use Rattle.route_cache.specs.Caching.{IsRoute};
-ghost use Rattle.route_cache.specs.Routes.{IsListed, type_of_vehicle};
+ghost use Rattle.routing_model.specs.Listed.{IsListed, type_of_vehicle};
 
 use crate::kept::{Kept, kept_of, section_between};
 use crate::view::View;
@@ -29,14 +29,15 @@ pub struct Route<'d> {
 
 impl<'d> Model for Route<'d> {
     ghost use Rattle.std.specs.Prelude.{};
-    ghost use Rattle.route_cache.specs.Routes.{RouteState, type_of_vehicle};
+    ghost use Rattle.routing_model.specs.Listed.{type_of_vehicle};
+    ghost use Rattle.route_cache.specs.Routes.{RouteState};
     ghost use Rattle.route_cache.specs.Caching.{IsKept, IsRoute};
 
     ghost Value = { RouteState };
 
     ghost view = { λ a. record { problem = a.given.now; vehicle = a.vehicle; visits = a.visits.items } };
 
-    ghost invariant = { λ a. IsRoute a.given.now a.vehicle a.visits.items × IsKept a.given.now (type_of_vehicle a.given.now a.vehicle) a.visits.items a.kept.prefixes.items a.kept.suffixes.items a.kept.trips.items a.kept.whole.segment a.kept.whole.distance };
+    ghost invariant = { λ a. IsRoute a.given.now a.vehicle a.visits.items × IsKept a.given.now (type_of_vehicle a.given.now a.vehicle) a.visits.items a.kept.prefixes.items a.kept.suffixes.items a.kept.trips.items a.kept.whole };
 }
 
 impl<'d> Route<'d> {

@@ -3,13 +3,12 @@ ghost use Rattle.problem_data.specs.Places.{is_client_place, is_depot_place};
 ghost use Rattle.trips.specs.Conditions.{IsSoundTrips};
 ghost use Rattle.segments.specs.Totals.{IsTotal};
 ghost use Rattle.route_cache.specs.Routes.{lent};
-ghost use Rattle.route_cache.specs.Sections.{prizes_of};
+ghost use Rattle.trips.specs.RunSegments.{prizes_of};
 ghost use Rattle.route_cache.specs.Views.{IsDistanceOfView, StandsForView};
 
-use crate::sections::Section;
 use problem_data::{ProblemData, Visit};
 use std::marker::Model;
-use trips::TripSegment;
+use trips::{RunSegment, TripSegment};
 
 /// Some stops and visits of a route, with what they add up to. It is of fixed size, and lends from the route, which can't change
 /// while the view lives.
@@ -22,7 +21,7 @@ pub struct View<'r> {
     pub(crate) end: u32,
     pub(crate) starts: bool,
     pub(crate) ends: bool,
-    pub(crate) section: Section,
+    pub(crate) section: RunSegment,
 }
 
 impl<'r> Model for View<'r> {
@@ -49,7 +48,7 @@ impl<'r> View<'r> {
         ensures sound { IsSoundTrips result }
         ensures stands { StandsForView self.now result }
     {
-        self.section.segment
+        self.section.trips
     }
 
     /// The sum of the distances of its legs, by the same type. From 0 to 10^16.
@@ -73,7 +72,7 @@ pub fn client_view<'d>(given: &'d ProblemData, client: u32) -> View<'d>
     requires { IsTrue (is_client_place given.now client) }
     ensures { result ≡ record { problem = given.now; vehicle = None; list = Visit.Client client ∷ []; first = 0; end = 1; starts = false; ends = false } }
 {
-    let _valid = given.problem();
+    given.validity();
     View {
         given,
         vehicle: None,
@@ -82,7 +81,7 @@ pub fn client_view<'d>(given: &'d ProblemData, client: u32) -> View<'d>
         end: 1,
         starts: false,
         ends: false,
-        section: Section::client(given, client),
+        section: RunSegment::client(given, client),
     }
 }
 
@@ -91,7 +90,7 @@ pub fn reload_view<'d>(given: &'d ProblemData, depot: u32) -> View<'d>
     requires { IsTrue (is_depot_place given.now depot) }
     ensures { result ≡ record { problem = given.now; vehicle = None; list = Visit.Reload depot ∷ []; first = 0; end = 1; starts = false; ends = false } }
 {
-    let _valid = given.problem();
+    given.validity();
     View {
         given,
         vehicle: None,
@@ -100,6 +99,6 @@ pub fn reload_view<'d>(given: &'d ProblemData, depot: u32) -> View<'d>
         end: 1,
         starts: false,
         ends: false,
-        section: Section::reload(given, depot),
+        section: RunSegment::reload(given, depot),
     }
 }

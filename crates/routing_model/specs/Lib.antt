@@ -6,6 +6,7 @@ pub mod Cost
 pub mod Feasible
 pub mod Lawful
 pub mod Laws
+pub mod Listed
 pub mod Load
 pub mod Routes
 pub mod Stops

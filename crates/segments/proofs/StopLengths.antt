@@ -3,14 +3,14 @@ use Rattle.std.proofs.Common.{◌≡◌, ℕ, ◌+◌, List, [], ◌∷◌, ◌+
 use Rattle.std.specs.Prelude.{ℤ, pos, ◌+ℤ◌}
 use Rattle.routing_model.specs.Clock.{Stop, joint}
 use Rattle.routing_model.specs.Cost.{length_of}
-use Rattle.segments.specs.declared.distances.DistanceSegment.{DistanceSegment}
+use Rattle.segments.specs.declared.distance_segment.DistanceSegment.{DistanceSegment}
 use Rattle.segments.specs.Distance.{JoinsLengths, merged_distance}
 
 append_nothing : (xs : List Stop) → xs ++ [] ≡ xs
 append_nothing [] = refl
 append_nothing (x ∷ xs) = ap (λ (ys : List Stop). x ∷ ys) (append_nothing xs)
 
-length_of-append : (leg : ℕ → ℕ → ℕ) (xs ys : List Stop) → length_of leg (xs ++ ys) ≡ length_of leg xs + length_of leg ys + joint leg xs ys
+pub length_of-append : (leg : ℕ → ℕ → ℕ) (xs ys : List Stop) → length_of leg (xs ++ ys) ≡ length_of leg xs + length_of leg ys + joint leg xs ys
 length_of-append leg [] ys = omega arith
 length_of-append leg (x ∷ xs) [] = ap (length_of leg) (append_nothing (x ∷ xs)) ∙ omega arith
 length_of-append leg (x ∷ []) (y ∷ ys) = omega arith

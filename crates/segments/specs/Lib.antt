@@ -1,3 +1,4 @@
+pub mod Bounds
 pub mod Distance
 pub mod Duration
 pub mod Laws

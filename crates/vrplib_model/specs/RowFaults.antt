@@ -29,7 +29,7 @@ has_right_length profile_section tokens = length tokens == 3
 has_right_length vehicle_types_section tokens = nat_le 14 (length tokens)
 has_right_length s tokens = length tokens == 2
 
--- the rule that a row more, or a number more, breaks, given the numbers of nodes and of weights that the text has and the rows before it
+-- the rule that a row more, or a number more, breaks, given how many nodes and weights the text has and the rows before it
 abbrev pub excess : Section → List (List ℕ) → ℕ → ℕ → List (List ℤ) → Option Rule
 excess edge_weight_section tokens nodes weights rows = broken_if (nat_lt weights (length (flat_map (λ numbers. numbers) rows) + length tokens)) RowCount
 excess depot_section tokens nodes weights rows = None
@@ -84,7 +84,7 @@ is_bad_group group_section numbers rows =
     || has_repeated (nodes_named group_section numbers ++ flat_map (nodes_named group_section) rows)
 is_bad_group s numbers rows = false
 
--- the first check that a row of the section fails, given the numbers of nodes and of weights that the text has and the rows before it
+-- the first check that a row of the section fails, given how many nodes and weights the text has and the rows before it
 unfoldable pub fault_of_row : Rounding → Section → List (List ℕ) → ℕ → ℕ → List (List ℤ) → Option Rule
 fault_of_row mode s tokens nodes weights rows =
     let numbers = row_numbers mode s rows tokens in

@@ -22,7 +22,7 @@ fn is_end(text: &[u8]) -> bool
     matches!(line_of(text), Line::EndOfFile)
 }
 
-/// The refusal at a text's first faulty line, the end standing for a line behind the last; the lines of a text without one are kept.
+/// The refusal at a text's first faulty line, the end standing for a line behind the last; the lines of a faultless text are kept.
 fn read_lines(
     alloc: Global,
     reading: &mut Reading,

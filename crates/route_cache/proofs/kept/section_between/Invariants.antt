@@ -1,8 +1,8 @@
 use Rattle.std.proofs.Common.{◌<◌, ◌+◌, ◌-◌, false}
 use Rattle.problem_data.specs.Places.{place_count}
 use Rattle.problem_data.specs.Reads.{RoseAtMost}
-use Rattle.route_cache.specs.Sections.{HoldsRun, Leaves}
-use Rattle.route_cache.proofs.Steps.{part}
+use Rattle.trips.specs.RunSegments.{HoldsRun, Leaves}
+use Rattle.trips.proofs.RunSteps.{part}
 use Rattle.route_cache.proofs.kept.section_between.Given as goal
 
 abbrev pub invariant-loop-k : goal.invariant-loop-k

@@ -2,7 +2,8 @@ use Rattle.std.proofs.Common.{◌≡◌, ap, subst, sym}
 use Rattle.problem_data.specs.declared.problem.Problem.{Problem}
 use Rattle.problem_data.specs.declared.problem.VehicleType.{VehicleType}
 use Rattle.route_cache.specs.Caching.{IsKept}
-use Rattle.route_cache.specs.Routes.{IsListed, RouteState}
+use Rattle.routing_model.specs.Listed.{IsListed}
+use Rattle.route_cache.specs.Routes.{RouteState}
 use Rattle.route_cache.proofs.route.Route.set_visits.Goals as goal
 
 pub invariant_of-self : goal.invariant_of-self
@@ -11,6 +12,5 @@ invariant_of-self c =
     let listed : IsListed c.self.inside.given.now c.args.visits.now = subst (λ (p : Problem). IsListed p c.args.visits.now) (sym same) c.requires in
     rw c.in_ok-list.ensures.items (
       record { valid = c.kind_of-kind.ensures.problem; in_range = c.self.invariant.0.in_range; listed = listed },
-      subst (λ (t : VehicleType). IsKept c.self.inside.given.now t c.args.visits.now c.in_ok-kept.kept.prefixes.items c.in_ok-kept.kept.suffixes.items c.in_ok-kept.kept.trips.items
-          c.in_ok-kept.kept.whole.segment c.in_ok-kept.kept.whole.distance) c.kind_of-kind.ensures.kind c.in_ok-kept.ensures.kept,
+      subst (λ (t : VehicleType). IsKept c.self.inside.given.now t c.args.visits.now c.in_ok-kept.kept.prefixes.items c.in_ok-kept.kept.suffixes.items c.in_ok-kept.kept.trips.items c.in_ok-kept.kept.whole) c.kind_of-kind.ensures.kind c.in_ok-kept.ensures.kept,
     )
