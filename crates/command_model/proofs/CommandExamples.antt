@@ -4,8 +4,8 @@ use Rattle.std.specs.Fmt.{char_count, digits}
 use Rattle.list_words.specs.Texts.{line}
 use Rattle.outside_model.specs.Files.{failed, too_long}
 use Rattle.problem_data.specs.declared.visit.Visit.TheVariants.{Client}
-use Rattle.vrplib_read.specs.declared.rule.Rule.TheVariants.{Missing, RowCount}
-use Rattle.vrplib_read.specs.declared.rule.Key.TheVariants.{Dimension}
+use Rattle.vrplib_model.specs.declared.rule.Rule.TheVariants.{Missing, RowCount}
+use Rattle.vrplib_model.specs.declared.rule.Key.TheVariants.{Dimension}
 use Rattle.routing_model.specs.Routes.{Routes}
 use Rattle.vrp_texts.proofs.ExampleProblems.{of_types, vehicles}
 use Rattle.vrp_texts.specs.Printed.{solution_text}

@@ -3,8 +3,8 @@ use Rattle.std.specs.Prelude.{ℕ, Bool, true, false, ⊤, List, [], Option, Som
 use Rattle.outside_model.specs.Files.{Load, failed, too_long, loaded}
 use Rattle.problem_data.specs.declared.problem.Problem.{Problem}
 use Rattle.vrp_num.specs.declared.rounding.Rounding.TheVariants.{Round}
-use Rattle.vrplib_read.specs.declared.refusal.Refusal.{Refusal}
-use Rattle.vrplib_read.specs.Reading.{read}
+use Rattle.vrplib_model.specs.declared.refusal.Refusal.{Refusal}
+use Rattle.vrplib_model.specs.Reading.{read}
 use Rattle.routing_model.specs.Best.{Best, Found, IsFeasibleBest}
 use Rattle.vrp_texts.specs.Printed.{solution_text}
 use Rattle.vrp_texts.specs.Tables.{found_row, none_row, refused_row}

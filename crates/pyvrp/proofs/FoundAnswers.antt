@@ -4,9 +4,9 @@ use Rattle.std.specs.Prelude.{◌==◌, Option, Some, None, ℤ, pos, option_map
 use Rattle.problem_data.specs.declared.problem.Problem.{Problem}
 use Rattle.problem_data.specs.Places.{vehicle_count}
 use Rattle.vrp_num.specs.declared.rounding.Rounding.TheVariants.{Round}
-use Rattle.vrplib_read.specs.declared.refusal.ReadFault.{ReadFault}
-use Rattle.vrplib_read.specs.declared.refusal.ReadFault.TheVariants as fault
-use Rattle.vrplib_read.specs.Reading.{read}
+use Rattle.vrplib_read.specs.declared.read_fault.ReadFault.{ReadFault}
+use Rattle.vrplib_read.specs.declared.read_fault.ReadFault.TheVariants as fault
+use Rattle.vrplib_model.specs.Reading.{read}
 use Rattle.vrplib_read.specs.Outcomes.{RefusesAsRead}
 use Rattle.routing_model.specs.Best.{Best, Found, IsFeasibleBest}
 use Rattle.routing_model.specs.Feasible.{is_feasible, total_excess_load, total_excess_time, total_excess_distance}

@@ -3,15 +3,15 @@ use Rattle.std.proofs.Common.{◌≡◌, ℕ, ◌+◌, true, false, List, [], �
 use Rattle.std.specs.Prelude.{if◌then◌else◌, option_map}
 use Rattle.vrp_num.specs.declared.rounding.Rounding.{Rounding}
 use Rattle.vrplib_read.specs.declared.reading.Reading.{Reading}
-use Rattle.vrplib_read.specs.declared.rule.Rule.{Rule}
-use Rattle.vrplib_read.specs.declared.rule.Rule.TheVariants.{RowCount}
-use Rattle.vrplib_read.specs.Checks.{broken_if}
-use Rattle.vrplib_read.specs.Faults.{fault_of}
-use Rattle.vrplib_read.specs.LineKinds.{Line, line_of, is_end}
-use Rattle.vrplib_read.specs.Reading.{first_fault, lines_onto, refusal_if}
-use Rattle.vrplib_read.specs.Stands.{Stands}
-use Rattle.vrplib_read.specs.Steps.{JudgesText}
-use Rattle.vrplib_read.specs.WordFaults.{is_short}
+use Rattle.vrplib_model.specs.declared.rule.Rule.{Rule}
+use Rattle.vrplib_model.specs.declared.rule.Rule.TheVariants.{RowCount}
+use Rattle.vrplib_model.specs.Checks.{broken_if}
+use Rattle.vrplib_model.specs.Faults.{fault_of}
+use Rattle.vrplib_model.specs.LineKinds.{Line, line_of, is_end}
+use Rattle.vrplib_model.specs.Reading.{first_fault, lines_onto, refusal_if}
+use Rattle.vrplib_read.specs.inside.Stands.{Stands}
+use Rattle.vrplib_read.specs.inside.Steps.{JudgesText}
+use Rattle.vrplib_model.specs.WordFaults.{is_short}
 
 -- some lines have been read without a fault, and these are left; the next one has this number
 pub record Reads (mode : Rounding) (all rest : List (List ℕ)) (number : ℕ) (r : Reading) : Type 0 where
@@ -20,9 +20,6 @@ pub record Reads (mode : Rounding) (all rest : List (List ℕ)) (number : ℕ) (
   pub counted : number ≡ length before + 1
   pub same_fault : first_fault mode [] all ≡ first_fault mode before rest
   pub same_lines : lines_onto [] all ≡ lines_onto before rest
-
-pub reads-none : (mode : Rounding) (all : List (List ℕ)) (r : Reading) → Stands mode [] r → Reads mode all all 1 r
-reads-none mode all r h = record { before = []; stands = h; counted = refl; same_fault = refl; same_lines = refl }
 
 -- the first line that is left is faulty
 fault-here : (mode : Rounding) (before : List Line) (text : List ℕ) (rest : List (List ℕ)) (rule : Rule) → Some rule ≡ fault_of mode before text
@@ -100,10 +97,6 @@ reads-all mode all rest number r fault h m e ends =
     ends h.before (subst (λ mode. Stands mode h.before r) (sym m) h.stands) ∙ ap (λ mode. broken_if (is_short mode h.before) RowCount) m in
     sym (h.same_fault ∙ (ap (first_fault mode h.before) e ∙ (at-end mode h.before ∙ (ap (refusal_if h.before) (sym short)
     ∙ ap (λ n. option_map (λ rule. record { line = n; rule = rule }) fault) (sym h.counted)))))
-
-pub reads-lines : (mode : Rounding) (all rest : List (List ℕ)) (number : ℕ) (r : Reading) → Reads mode all rest number r → rest ≡ [] → Stands mode (lines_onto [] all) r
-reads-lines mode all rest number r h e =
-    subst (λ lines. Stands mode lines r) (sym (h.same_lines ∙ ap (lines_onto h.before) e)) h.stands
 
 pub reads-mode : (mode : Rounding) (all rest : List (List ℕ)) (number : ℕ) (r : Reading) → Reads mode all rest number r → r.mode ≡ mode
 reads-mode mode all rest number r h = h.stands.same_mode

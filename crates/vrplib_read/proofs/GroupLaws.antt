@@ -5,13 +5,14 @@ use Rattle.std.specs.List.{All, position, list_any}
 use Rattle.std.proofs.lemmas.Bool.Decides.{nat_tests}
 use Rattle.std.proofs.lemmas.Int.{ints}
 use Rattle.std.proofs.lemmas.List.Elements.{All-head, All-tail}
-use Rattle.vrplib_read.specs.Sections.{Section, group_section}
-use Rattle.vrplib_read.specs.Rows.{nodes_of}
-use Rattle.vrplib_read.specs.Entries.{place_of}
-use Rattle.vrplib_read.specs.Checks.{contains}
-use Rattle.vrplib_read.specs.RowFaults.{nodes_named}
-use Rattle.vrplib_read.specs.Kept.{IsBetween, IsRow}
-use Rattle.vrplib_read.specs.OfText.{group_places}
+use Rattle.vrplib_model.specs.declared.section.Section.{Section}
+use Rattle.vrplib_model.specs.declared.section.Section.TheVariants.{Group as group_section}
+use Rattle.vrplib_model.specs.Rows.{nodes_of}
+use Rattle.vrplib_model.specs.Entries.{place_of}
+use Rattle.vrplib_model.specs.Checks.{contains}
+use Rattle.vrplib_model.specs.RowFaults.{nodes_named}
+use Rattle.vrplib_model.specs.inside.FaultlessRows.{IsBetween, IsRow}
+use Rattle.vrplib_read.specs.inside.OfText.{group_places}
 use Rattle.vrplib_read.proofs.RowLaws.{position_same}
 
 pub wider : (low high wide : ℕ) (z : ℤ) → high ≤ wide → IsBetween low high z → IsBetween low wide z

@@ -1,11 +1,10 @@
 -- Tables of legs: how many legs they have, how large these are, and which they are.
-use Rattle.std.proofs.Common.{◌≡◌, ◌==◌, ℕ, ◌+◌, ◌*◌, ◌^◌, ◌≤◌, Bool, true, false, cond, List, [], ◌∷◌, length, get_or, map, refl, sym, ◌∙◌, ap, subst, Option, ℤ, arith}
+use Rattle.std.proofs.Common.{◌≡◌, ◌==◌, ℕ, ◌*◌, ◌^◌, ◌≤◌, Bool, true, false, cond, List, [], ◌∷◌, get_or, map, refl, sym, ◌∙◌, ap, subst, Option, ℤ, arith}
 use Rattle.std.specs.Prelude.{◌-ℤ◌, nat_abs}
-use Rattle.std.specs.List.{All, flat_map}
+use Rattle.std.specs.List.{All}
 use Rattle.std.proofs.lemmas.Simd.{map-map}
 use Rattle.std.proofs.lemmas.Bool.Decides.{nat_tests}
 use Rattle.std.proofs.lemmas.Int.{ints}
-use Rattle.std.proofs.lemmas.List.{length-append, length-map}
 use Rattle.std.proofs.lemmas.List.Elements.{All-head, All-tail, All-nil, All-map, All-append}
 use Rattle.problem_data.specs.declared.problem.Place.{Place}
 use Rattle.problem_data.specs.Valid.{IsValidPlace}
@@ -14,27 +13,19 @@ use Rattle.vrp_num.specs.declared.rounding.Rounding.TheVariants.{Round, Trunc, D
 use Rattle.vrp_num.specs.Rounding.{IsDistance, distance, square}
 use Rattle.vrp_num.proofs.RoundingLaws.{distance_is, distance_is_one}
 use Rattle.vrplib_read.specs.declared.reading.Reading.{Reading}
-use Rattle.vrplib_read.specs.declared.words.WeightFormat.{WeightFormat}
-use Rattle.vrplib_read.specs.LineKinds.{Line}
-use Rattle.vrplib_read.specs.Values.{is_explicit}
-use Rattle.vrplib_read.specs.Entries.{coordinates, counted, nodes}
-use Rattle.vrplib_read.specs.Kept.{IsBetween}
-use Rattle.vrplib_read.specs.Legs.{base_leg}
-use Rattle.vrplib_read.specs.Stands.{Stands}
-use Rattle.vrplib_read.specs.OfText.{known_nodes, known_weights, place_by, place_leg, weight_leg}
-use Rattle.vrplib_read.specs.Numbers.{number_at}
+use Rattle.vrplib_rows.specs.declared.weight_format.WeightFormat.{WeightFormat}
+use Rattle.vrplib_model.specs.LineKinds.{Line}
+use Rattle.vrplib_model.specs.Values.{is_explicit}
+use Rattle.vrplib_model.specs.Entries.{coordinates, counted, nodes}
+use Rattle.vrplib_model.specs.inside.FaultlessRows.{IsBetween}
+use Rattle.vrplib_model.specs.Legs.{base_leg}
+use Rattle.vrplib_read.specs.inside.Stands.{Stands}
+use Rattle.vrplib_read.specs.inside.OfText.{known_nodes, known_weights, place_by, place_leg, weight_leg}
+use Rattle.vrplib_model.specs.Numbers.{number_at}
 use Rattle.vrplib_read.proofs.LegBounds.{leg_within, square_bound}
+use Rattle.vrplib_model.proofs.LegTables.{rows_by}
 use Rattle.vrplib_read.proofs.RowLaws.{number_within}
 use Rattle.vrplib_read.proofs.Standing.{nodes_stand, weights_stand}
-
--- a table by rows and columns
-abbrev pub rows_by : {X Y : Type 0} → (X → Y → ℕ) → List X → List Y → List ℕ
-rows_by f xs ys = flat_map (λ x. map (f x) ys) xs
-
-pub rows_length : {X Y : Type 0} (f : X → Y → ℕ) (xs : List X) (ys : List Y) → length (rows_by f xs ys) ≡ length xs * length ys
-rows_length f [] ys = omega arith
-rows_length f (x ∷ xs) ys =
-    length-append (map (f x) ys) (rows_by f xs ys) ∙ ap (λ n. n + length (rows_by f xs ys)) (length-map ys (f x)) ∙ ap (λ n. length ys + n) (rows_length f xs ys) ∙ omega arith
 
 pub rows_within : {X Y : Type 0} (b : ℕ) (P : X → Type 0) (Q : Y → Type 0) (f : X → Y → ℕ) → ((x : X) (y : Y) → P x → Q y → f x y ≤ b) →
     (xs : List X) (ys : List Y) → All P xs → All Q ys → All (λ leg. leg ≤ b) (rows_by f xs ys)
@@ -94,9 +85,9 @@ euclidean_leg_is mode all e i j = rw e (sym (leg_by_test mode all i j (i == j) r
 
 -- the legs that the text gives
 pub explicit_leg_is : (r : Reading) (all : List Line) → Stands r.mode all r → is_explicit all ≡ true → (i j : ℕ) →
-    weight_leg r.words.weight_format (known_nodes r) (known_weights r) i j ≡ base_leg r.mode all i j
+    weight_leg r.keywords.weight_format (known_nodes r) (known_weights r) i j ≡ base_leg r.mode all i j
 unfolding base_leg
-explicit_leg_is r all st e i j = rw (e, st.words.full, st.words.lower, nodes_stand r all st, weights_stand r all st) refl
+explicit_leg_is r all st e i j = rw (e, st.keywords.full, st.keywords.lower, nodes_stand r all st, weights_stand r all st) refl
 
 pub euclidean_rows : (mode : Rounding) (all : List Line) (places : List Place) (legs : List ℕ) → legs ≡ rows_by (place_leg mode) places places →
     places ≡ map (coordinates mode all) (nodes mode all) → is_explicit all ≡ false → legs ≡ rows_by (base_leg mode all) (nodes mode all) (nodes mode all)
@@ -105,12 +96,12 @@ euclidean_rows mode all places legs h placed e =
     ∙ rows_same (λ i j. place_leg mode (coordinates mode all i) (coordinates mode all j)) (base_leg mode all) (euclidean_leg_is mode all e) (nodes mode all) (nodes mode all)
 
 pub explicit_rows : (r : Reading) (all : List Line) → Stands r.mode all r → (n : ℕ) (weights : List ℤ) (legs : List ℕ) → n ≡ known_nodes r → weights ≡ known_weights r →
-    legs ≡ rows_by (weight_leg r.words.weight_format n weights) (counted 1 n) (counted 1 n) → is_explicit all ≡ true →
+    legs ≡ rows_by (weight_leg r.keywords.weight_format n weights) (counted 1 n) (counted 1 n) → is_explicit all ≡ true →
     legs ≡ rows_by (base_leg r.mode all) (nodes r.mode all) (nodes r.mode all)
 explicit_rows r all st n weights legs hn hw h e =
-    h ∙ ap (λ m. rows_by (weight_leg r.words.weight_format m weights) (counted 1 m) (counted 1 m)) hn
-    ∙ ap (λ ws. rows_by (weight_leg r.words.weight_format (known_nodes r) ws) (counted 1 (known_nodes r)) (counted 1 (known_nodes r))) hw
-    ∙ rows_same (weight_leg r.words.weight_format (known_nodes r) (known_weights r)) (base_leg r.mode all) (explicit_leg_is r all st e) (counted 1 (known_nodes r)) (counted 1 (known_nodes r))
+    h ∙ ap (λ m. rows_by (weight_leg r.keywords.weight_format m weights) (counted 1 m) (counted 1 m)) hn
+    ∙ ap (λ ws. rows_by (weight_leg r.keywords.weight_format (known_nodes r) ws) (counted 1 (known_nodes r)) (counted 1 (known_nodes r))) hw
+    ∙ rows_same (weight_leg r.keywords.weight_format (known_nodes r) (known_weights r)) (base_leg r.mode all) (explicit_leg_is r all st e) (counted 1 (known_nodes r)) (counted 1 (known_nodes r))
     ∙ ap (λ m. rows_by (base_leg r.mode all) (counted 1 m) (counted 1 m)) (sym (nodes_stand r all st))
 
 place_small : (mode : Rounding) (a b : Place) → IsValidPlace a → IsValidPlace b → place_leg mode a b ≤ 4 * 10 ^ 9

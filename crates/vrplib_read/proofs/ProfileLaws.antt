@@ -10,19 +10,23 @@ use Rattle.std.proofs.lemmas.List.Folds.{list_any-append, list_any_at}
 use Rattle.std.proofs.lemmas.Option.{slice_get_within, get_or_from_slice_get}
 use Rattle.vrp_num.specs.declared.rounding.Rounding.{Rounding}
 use Rattle.vrplib_read.specs.declared.reading.Reading.{Reading}
-use Rattle.vrplib_read.specs.Sections.{Section, same_section, profile_section}
-use Rattle.vrplib_read.specs.LineKinds.{Line}
-use Rattle.vrplib_read.specs.Numbers.{number_at}
-use Rattle.vrplib_read.specs.Values.{node_count}
-use Rattle.vrplib_read.specs.Entries.{nodes}
-use Rattle.vrplib_read.specs.Kept.{Listed, IsRow, IsProfileRow}
-use Rattle.vrplib_read.specs.Legs.{base_leg, profile_of_row, profiles}
-use Rattle.vrplib_read.specs.Stands.{Stands}
-use Rattle.vrplib_read.specs.OfText.{known_nodes, is_long, scaled, scaled_profile}
-use Rattle.vrplib_read.specs.WholeText.{has_long_leg}
+use Rattle.vrplib_model.specs.declared.section.Section.{Section}
+use Rattle.vrplib_model.specs.declared.section.Section.TheVariants.{Profile as profile_section}
+use Rattle.vrplib_model.specs.Sections.{same_section}
+use Rattle.vrplib_model.specs.LineKinds.{Line}
+use Rattle.vrplib_model.specs.Numbers.{number_at}
+use Rattle.vrplib_model.specs.Values.{node_count}
+use Rattle.vrplib_model.specs.Entries.{nodes}
+use Rattle.vrplib_rows.specs.KeptRows.{Listed}
+use Rattle.vrplib_model.specs.inside.FaultlessRows.{IsRow, IsProfileRow}
+use Rattle.vrplib_model.specs.Legs.{base_leg, profile_of_row, profiles}
+use Rattle.vrplib_read.specs.inside.Stands.{Stands}
+use Rattle.vrplib_read.specs.inside.OfText.{known_nodes, is_long, scaled, scaled_profile}
+use Rattle.vrplib_model.specs.WholeText.{has_long_leg}
 use Rattle.vrplib_read.proofs.RowLaws.{any_mapped, map_taken}
-use Rattle.vrplib_read.proofs.WholeFacts.{length-counted}
-use Rattle.vrplib_read.proofs.LegLaws.{map_same, rows_by}
+use Rattle.vrplib_model.proofs.WholeFacts.{length-counted}
+use Rattle.vrplib_read.proofs.LegLaws.{map_same}
+use Rattle.vrplib_model.proofs.LegTables.{rows_by}
 use Rattle.vrplib_read.proofs.Standing.{nodes_stand, rows_stand, section_stands}
 
 -- an element that passes, among mapped ones

@@ -5,24 +5,29 @@ use Rattle.std.specs.Option.{ForSome, option_copied, option_map_or}
 use Rattle.std.specs.List.{list_any}
 use Rattle.indexmap.specs.IndexMap.{get}
 use Rattle.vrp_num.specs.declared.rounding.Rounding.{Rounding}
-use Rattle.vrplib_read.specs.declared.rule.Rule.{Rule}
-use Rattle.vrplib_read.specs.declared.rule.Rule.TheVariants.{NotText, NoKeyword, Repeated, RowCount, Unsupported}
+use Rattle.vrplib_model.specs.declared.rule.Rule.{Rule}
+use Rattle.vrplib_model.specs.declared.rule.Rule.TheVariants.{NotText, NoKeyword, Repeated, RowCount, Unsupported}
 use Rattle.vrplib_read.specs.declared.reading.Reading.{Reading}
-use Rattle.vrplib_read.specs.Checks.{broken_if, first_of}
-use Rattle.vrplib_read.specs.Faults.{fault_of, has_zero, fault_within}
-use Rattle.vrplib_read.specs.Keywords.{is_of_vehicles}
-use Rattle.vrplib_read.specs.LineKinds.{Line, empty, end_of_file, section_line, keyword_line, word_line, row, line_of}
-use Rattle.vrplib_read.specs.Numbers.{is_minus_one_token}
-use Rattle.vrplib_read.specs.RowFaults.{fault_of_row, row_fault}
-use Rattle.vrplib_read.specs.Rows.{Position, outside, passed_over, within, next_position, after_row, opened, row_numbers, rows_of, numbers_of, has_section}
-use Rattle.vrplib_read.specs.Sections.{Section, section_name, section_of, sections, same_section, node_coord_section, demand_section, backhaul_section, time_window_section, service_time_section, release_time_section, prize_section, edge_weight_section, depot_section, group_section, profile_section, vehicle_types_section}
-use Rattle.vrplib_read.specs.Values.{node_count}
-use Rattle.vrplib_read.specs.WordFaults.{is_short, weight_count, is_stray, repeats_section, section_lacks, is_unsupported_section}
-use Rattle.vrplib_read.specs.Kept.{Listed, KnowsSection, KnowsWords}
-use Rattle.vrplib_read.specs.Stands.{Stands}
-use Rattle.vrplib_read.specs.Steps.{Judges, JudgesText, behind, fault_of_line, keyword_line_fault, opened_rows, with_row}
-use Rattle.vrplib_read.proofs.RowBounds.{first_of-cons, broken_if-none}
-use Rattle.vrplib_read.proofs.WordLaws.{knows-same, find-passes, find-none, same_bytes}
+use Rattle.vrplib_model.specs.Checks.{broken_if, first_of}
+use Rattle.vrplib_model.specs.Faults.{fault_of, has_zero, fault_within}
+use Rattle.vrplib_model.specs.Keywords.{is_of_vehicles}
+use Rattle.vrplib_model.specs.LineKinds.{Line, empty, end_of_file, section_line, keyword_line, word_line, row, line_of}
+use Rattle.vrplib_model.specs.Numbers.{is_minus_one_token}
+use Rattle.vrplib_model.specs.RowFaults.{fault_of_row, row_fault}
+use Rattle.vrplib_model.specs.declared.position.Position.{Position}
+use Rattle.vrplib_model.specs.declared.position.Position.TheVariants.{Outside as outside, PassedOver as passed_over, Within as within}
+use Rattle.vrplib_model.specs.Rows.{next_position, after_row, opened, row_numbers, rows_of, numbers_of, has_section}
+use Rattle.vrplib_model.specs.declared.section.Section.{Section}
+use Rattle.vrplib_model.specs.declared.section.Section.TheVariants.{NodeCoord as node_coord_section, Demand as demand_section, Backhaul as backhaul_section, TimeWindow as time_window_section, ServiceTime as service_time_section, ReleaseTime as release_time_section, Prize as prize_section, EdgeWeight as edge_weight_section, Depot as depot_section, Group as group_section, Profile as profile_section, VehicleTypes as vehicle_types_section}
+use Rattle.vrplib_model.specs.Sections.{section_name, section_of, sections, same_section}
+use Rattle.vrplib_model.specs.Values.{node_count}
+use Rattle.vrplib_model.specs.WordFaults.{is_short, weight_count, is_stray, repeats_section, section_lacks, is_unsupported_section}
+use Rattle.vrplib_rows.specs.KeptRows.{Listed}
+use Rattle.vrplib_read.specs.inside.Stands.{KnowsSection, Stands}
+use Rattle.vrplib_rows.specs.KnownKeywords.{KnowsKeywords, keyword_line_fault}
+use Rattle.vrplib_read.specs.inside.Steps.{Judges, JudgesText, behind, fault_of_line, opened_rows, with_row}
+use Rattle.vrplib_model.proofs.RowBounds.{first_of-cons, broken_if-none}
+use Rattle.vrplib_rows.proofs.KeywordLaws.{knows-same, find-passes, find-none, same_bytes}
 
 pub row_count-known : (mode : Rounding) (before : List Line) (s : Section) (found : Option Listed) → KnowsSection mode before s found
     → option_map_or (λ l. length l.rows) found 0 ≡ length (rows_of mode s before)
@@ -255,7 +260,7 @@ unfolding rows_of
 stands-empty mode before r h = record {
   same_mode = h.same_mode;
   position = h.position;
-  words = knows-same mode before (empty ∷ before) r.words (λ k. refl) h.words;
+  keywords = knows-same mode before (empty ∷ before) r.keywords (λ k. refl) h.keywords;
   sections = λ s. section-kept mode before (empty ∷ before) s _ (λ _. refl) refl refl (h.sections s);
 }
 
@@ -264,32 +269,32 @@ unfolding rows_of
 stands-word mode before r h = record {
   same_mode = h.same_mode;
   position = h.position;
-  words = knows-same mode before (word_line ∷ before) r.words (λ k. refl) h.words;
+  keywords = knows-same mode before (word_line ∷ before) r.keywords (λ k. refl) h.keywords;
   sections = λ s. section-kept mode before (word_line ∷ before) s _ (λ _. refl) refl refl (h.sections s);
 }
 
 -- a keyword's line
 pub stands-keyword : (mode : Rounding) (key : List ℕ) (value : List (List ℕ)) (before : List Line) (r new : Reading) → Stands mode before r → new.mode ≡ r.mode
-    → new.position ≡ outside → KnowsWords mode (keyword_line key value ∷ before) new.words → new.sections ≡ r.sections
-    → ((s : Section) → is_some (get same_section r.sections s) ≡ true → new.words.dimension ≡ r.words.dimension)
+    → new.position ≡ outside → KnowsKeywords mode (keyword_line key value ∷ before) new.keywords → new.sections ≡ r.sections
+    → ((s : Section) → is_some (get same_section r.sections s) ≡ true → new.keywords.dimension ≡ r.keywords.dimension)
     → Stands mode (keyword_line key value ∷ before) new
 unfolding rows_of
 stands-keyword mode key value before r new h m p w e same = record {
   same_mode = m ∙ h.same_mode;
   position = p;
-  words = w;
-  sections = λ s. rw e (section-kept mode before (keyword_line key value ∷ before) s _ (λ some. ap (λ n. unwrap_or n 0) (w.dimension ∙ (same s some ∙ sym h.words.dimension))) refl refl (h.sections s));
+  keywords = w;
+  sections = λ s. rw e (section-kept mode before (keyword_line key value ∷ before) s _ (λ some. ap (λ n. unwrap_or n 0) (w.dimension ∙ (same s some ∙ sym h.keywords.dimension))) refl refl (h.sections s));
 }
 
 -- a section's line
 pub stands-section-unknown : (mode : Rounding) (key : List ℕ) (before : List Line) (r new : Reading) → Stands mode before r → section_of key ≡ None → new.mode ≡ r.mode
-    → new.position ≡ opened None before → new.words ≡ r.words → ((s : Section) → get same_section new.sections s ≡ get same_section r.sections s)
+    → new.position ≡ opened None before → new.keywords ≡ r.keywords → ((s : Section) → get same_section new.sections s ≡ get same_section r.sections s)
     → Stands mode (section_line key ∷ before) new
 unfolding rows_of
 stands-section-unknown mode key before r new h none m p w e = record {
   same_mode = m ∙ h.same_mode;
   position = p ∙ ap (λ section. opened section before) (sym none);
-  words = rw w (knows-same mode before (section_line key ∷ before) r.words (λ k. refl) h.words);
+  keywords = rw w (knows-same mode before (section_line key ∷ before) r.keywords (λ k. refl) h.keywords);
   sections = λ s. rw (e s) (section-kept mode before (section_line key ∷ before) s _ (λ _. refl) (opened-unknown key before s none) refl (h.sections s));
 }
 
@@ -318,20 +323,20 @@ fresh-rows mode before s None fresh h = h.1
 fresh-rows mode before s (Some listed) fresh h = absurd (cc)
 
 pub stands-section-known : (mode : Rounding) (key : List ℕ) (before : List Line) (t : Section) (r new : Reading) → Stands mode before r → section_of key ≡ Some t
-    → has_section t before ≡ false → new.mode ≡ r.mode → new.position ≡ opened (Some t) before → new.words ≡ r.words
-    → ((s : Section) → get same_section new.sections s ≡ added t (unwrap_or r.words.dimension 0) s (get same_section r.sections s))
+    → has_section t before ≡ false → new.mode ≡ r.mode → new.position ≡ opened (Some t) before → new.keywords ≡ r.keywords
+    → ((s : Section) → get same_section new.sections s ≡ added t (unwrap_or r.keywords.dimension 0) s (get same_section r.sections s))
     → Stands mode (section_line key ∷ before) new
 stands-section-known mode key before t r new h known fresh m p w e = record {
   same_mode = m ∙ h.same_mode;
   position = p ∙ ap (λ section. opened section before) (sym known);
-  words = rw w (knows-same mode before (section_line key ∷ before) r.words (λ k. refl) h.words);
-  sections = λ s. rw (e s) (section-added mode key before s t (unwrap_or r.words.dimension 0) (get same_section r.sections s) known fresh
-      (ap (λ n. unwrap_or n 0) (sym h.words.dimension)) (fresh-rows mode before t (get same_section r.sections t) fresh (h.sections t)) (h.sections s));
+  keywords = rw w (knows-same mode before (section_line key ∷ before) r.keywords (λ k. refl) h.keywords);
+  sections = λ s. rw (e s) (section-added mode key before s t (unwrap_or r.keywords.dimension 0) (get same_section r.sections s) known fresh
+      (ap (λ n. unwrap_or n 0) (sym h.keywords.dimension)) (fresh-rows mode before t (get same_section r.sections t) fresh (h.sections t)) (h.sections s));
 }
 
 pub stands-section : (mode : Rounding) (key : List ℕ) (before : List Line) (section : Option Section) (r new : Reading) → Stands mode before r → section ≡ section_of key
-    → repeats_section section before ≡ false → new.mode ≡ r.mode → new.position ≡ opened section before → new.words ≡ r.words
-    → ((s : Section) → get same_section new.sections s ≡ opened_rows section (unwrap_or r.words.dimension 0) s (get same_section r.sections s))
+    → repeats_section section before ≡ false → new.mode ≡ r.mode → new.position ≡ opened section before → new.keywords ≡ r.keywords
+    → ((s : Section) → get same_section new.sections s ≡ opened_rows section (unwrap_or r.keywords.dimension 0) s (get same_section r.sections s))
     → Stands mode (section_line key ∷ before) new
 stands-section mode key before None r new h same fresh m p w e = stands-section-unknown mode key before r new h (sym same) m p w e
 stands-section mode key before (Some t) r new h same fresh m p w e = stands-section-known mode key before t r new h (sym same) fresh m p w e
@@ -350,7 +355,7 @@ pub stands-row-passed : (mode : Rounding) (tokens : List (List ℕ)) (before : L
 stands-row-passed mode tokens before r h e = record {
   same_mode = h.same_mode;
   position = h.position ∙ (e ∙ ap (after_row tokens) (sym e));
-  words = knows-same mode before (row tokens ∷ before) r.words (λ k. refl) h.words;
+  keywords = knows-same mode before (row tokens ∷ before) r.keywords (λ k. refl) h.keywords;
   sections = λ s. section-kept mode before (row tokens ∷ before) s _ (λ _. refl) refl (passed-rows mode tokens before s e) (h.sections s);
 }
 
@@ -387,13 +392,13 @@ sections-behind mode tokens before s t found other e some h beside =
     ] refl
 
 pub stands-row-within : (mode : Rounding) (tokens : List (List ℕ)) (before : List Line) (s : Section) (r new : Reading) → Stands mode before r → r.position ≡ within s
-    → new.mode ≡ r.mode → new.position ≡ after_row tokens (within s) → new.words ≡ r.words → is_some (get same_section r.sections s) ≡ true
+    → new.mode ≡ r.mode → new.position ≡ after_row tokens (within s) → new.keywords ≡ r.keywords → is_some (get same_section r.sections s) ≡ true
     → ((t : Section) → get same_section new.sections t ≡ rows_behind mode tokens s t (get same_section r.sections s) (get same_section r.sections t))
     → Stands mode (row tokens ∷ before) new
 stands-row-within mode tokens before s r new h at m p w some e = record {
   same_mode = m ∙ h.same_mode;
   position = p ∙ ap (after_row tokens) (sym at ∙ h.position);
-  words = rw w (knows-same mode before (row tokens ∷ before) r.words (λ k. refl) h.words);
+  keywords = rw w (knows-same mode before (row tokens ∷ before) r.keywords (λ k. refl) h.keywords);
   sections = λ t. rw (e t) (sections-behind mode tokens before s t (get same_section r.sections s) (get same_section r.sections t) (sym h.position ∙ at) some
       (h.sections s) (h.sections t));
 }

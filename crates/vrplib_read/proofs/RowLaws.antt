@@ -7,14 +7,16 @@ use Rattle.std.proofs.lemmas.List.Elements.{All-head, All-tail, All-nil, All-app
 use Rattle.std.proofs.lemmas.List.Folds.{find_at, list_any-append}
 use Rattle.std.proofs.lemmas.Option.{slice_get_past, slice_get_within, get_or_from_slice_get}
 use Rattle.std.proofs.lemmas.List.{take_more, map-append, append-nil, append_assoc}
-use Rattle.vrplib_read.specs.Sections.{Section, is_by_node, node_coord_section, demand_section, backhaul_section, time_window_section, service_time_section, release_time_section, prize_section, edge_weight_section, depot_section, group_section, profile_section, vehicle_types_section}
-use Rattle.vrplib_read.specs.Numbers.{int_at, number_at}
-use Rattle.vrplib_read.specs.Entries.{counted}
-use Rattle.vrplib_read.specs.Checks.{contains}
+use Rattle.vrplib_model.specs.declared.section.Section.{Section}
+use Rattle.vrplib_model.specs.declared.section.Section.TheVariants.{NodeCoord as node_coord_section, Demand as demand_section, Backhaul as backhaul_section, TimeWindow as time_window_section, ServiceTime as service_time_section, ReleaseTime as release_time_section, Prize as prize_section, EdgeWeight as edge_weight_section, Depot as depot_section, Group as group_section, Profile as profile_section, VehicleTypes as vehicle_types_section}
+use Rattle.vrplib_model.specs.Sections.{is_by_node}
+use Rattle.vrplib_model.specs.Numbers.{int_at, number_at}
+use Rattle.vrplib_model.specs.Entries.{counted}
+use Rattle.vrplib_model.specs.Checks.{contains}
 use Rattle.std.specs.Prelude.{nat_abs}
 use Rattle.std.proofs.lemmas.Int.{ints}
-use Rattle.vrplib_read.specs.Kept.{IsBetween, IsRow}
-use Rattle.vrplib_read.specs.RowFaults.{nodes_named}
+use Rattle.vrplib_model.specs.inside.FaultlessRows.{IsBetween, IsRow}
+use Rattle.vrplib_model.specs.RowFaults.{nodes_named}
 
 pub int_at_is : (k : ℕ) (row : List ℤ) → int_at k row ≡ get_or row k (pos 0)
 int_at_is k [] = refl

@@ -2,8 +2,10 @@
 use Rattle.std.proofs.Common.{◌≡◌, Bool, refl, List, [], ◌∷◌}
 use Rattle.std.specs.Map.{lookup}
 use denote.Enum.Bare.{sameb}
-use Rattle.vrplib_read.specs.contracts.section.Section.{the_type}
-use Rattle.vrplib_read.specs.Sections.{Section, same_section, node_coord_section, demand_section, backhaul_section, time_window_section, service_time_section, release_time_section, prize_section, edge_weight_section, depot_section, group_section, profile_section, vehicle_types_section}
+use Rattle.vrplib_model.specs.contracts.section.Section.{the_type}
+use Rattle.vrplib_model.specs.declared.section.Section.{Section}
+use Rattle.vrplib_model.specs.declared.section.Section.TheVariants.{NodeCoord as node_coord_section, Demand as demand_section, Backhaul as backhaul_section, TimeWindow as time_window_section, ServiceTime as service_time_section, ReleaseTime as release_time_section, Prize as prize_section, EdgeWeight as edge_weight_section, Depot as depot_section, Group as group_section, Profile as profile_section, VehicleTypes as vehicle_types_section}
+use Rattle.vrplib_model.specs.Sections.{same_section}
 
 pub same_test : (s t : Section) → sameb the_type s t ≡ same_section s t
 same_test node_coord_section node_coord_section = refl

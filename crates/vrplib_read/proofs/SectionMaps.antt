@@ -4,10 +4,11 @@ use Rattle.std.specs.Prelude.{if◌then◌else◌, option_map, is_some}
 use Rattle.std.specs.Option.{ForSome}
 use Rattle.std.specs.Map.{lookup}
 use denote.Enum.Bare.{sameb}
-use Rattle.vrplib_read.specs.contracts.section.Section.{the_type}
-use Rattle.vrplib_read.specs.Sections.{Section, same_section}
-use Rattle.vrplib_read.specs.Kept.{Listed}
-use Rattle.vrplib_read.specs.Steps.{kind_of}
+use Rattle.vrplib_model.specs.contracts.section.Section.{the_type}
+use Rattle.vrplib_model.specs.declared.section.Section.{Section}
+use Rattle.vrplib_model.specs.Sections.{same_section}
+use Rattle.vrplib_rows.specs.KeptRows.{Listed}
+use Rattle.vrplib_read.specs.inside.Steps.{kind_of}
 use Rattle.vrplib_read.proofs.ReadingLaws.{same_section-true}
 use Rattle.vrplib_read.proofs.SectionKeys.{same_test, same_lookup}
 

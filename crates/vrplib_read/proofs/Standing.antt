@@ -5,16 +5,18 @@ use Rattle.std.specs.Option.{option_map_or}
 use Rattle.indexmap.specs.IndexMap.{get}
 use Rattle.vrp_num.specs.declared.rounding.Rounding.{Rounding}
 use Rattle.vrplib_read.specs.declared.reading.Reading.{Reading}
-use Rattle.vrplib_read.specs.Sections.{Section, same_section, edge_weight_section}
-use Rattle.vrplib_read.specs.LineKinds.{Line}
-use Rattle.vrplib_read.specs.Values.{node_count}
-use Rattle.vrplib_read.specs.Rows.{rows_of, numbers_of, has_section}
-use Rattle.vrplib_read.specs.Kept.{Listed, KnowsSection}
-use Rattle.vrplib_read.specs.Stands.{Stands}
-use Rattle.vrplib_read.specs.OfText.{known_nodes, known_rows, known_weights}
+use Rattle.vrplib_model.specs.declared.section.Section.{Section}
+use Rattle.vrplib_model.specs.declared.section.Section.TheVariants.{EdgeWeight as edge_weight_section}
+use Rattle.vrplib_model.specs.Sections.{same_section}
+use Rattle.vrplib_model.specs.LineKinds.{Line}
+use Rattle.vrplib_model.specs.Values.{node_count}
+use Rattle.vrplib_model.specs.Rows.{rows_of, numbers_of, has_section}
+use Rattle.vrplib_rows.specs.KeptRows.{Listed}
+use Rattle.vrplib_read.specs.inside.Stands.{KnowsSection, Stands}
+use Rattle.vrplib_read.specs.inside.OfText.{known_nodes, known_rows, known_weights}
 
 pub nodes_stand : (r : Reading) (all : List Line) → Stands r.mode all r → node_count r.mode all ≡ known_nodes r
-nodes_stand r all st = ap (λ o. unwrap_or o 0) st.words.dimension
+nodes_stand r all st = ap (λ o. unwrap_or o 0) st.keywords.dimension
 
 rows_of_known : (mode : Rounding) (all : List Line) (s : Section) (o : Option Listed) → KnowsSection mode all s o →
     rows_of mode s all ≡ option_map_or (λ listed. listed.rows) o []

@@ -8,18 +8,18 @@ use Rattle.problem_data.specs.declared.problem.VehicleType.{VehicleType}
 use Rattle.problem_data.specs.declared.problem.Profile.{Profile}
 use Rattle.vrp_num.specs.declared.rounding.Rounding.{Rounding}
 use Rattle.vrplib_read.specs.declared.reading.Reading.{Reading}
-use Rattle.vrplib_read.specs.declared.rule.Rule.{Rule}
-use Rattle.vrplib_read.specs.declared.rule.Rule.TheVariants.{BadDepot, BadVehicle, BadGroup, EmptyWindow, Limit}
-use Rattle.vrplib_read.specs.LineKinds.{Line}
-use Rattle.vrplib_read.specs.Checks.{broken_if, first_of}
-use Rattle.vrplib_read.specs.Entries.{counted, coordinates, nodes, depot_nodes, depot_count, client_count, client_nodes}
-use Rattle.vrplib_read.specs.Fleet.{types}
-use Rattle.vrplib_read.specs.Legs.{profiles}
-use Rattle.vrplib_read.specs.Meaning.{groups, depot, client, problem_of}
-use Rattle.vrplib_read.specs.Stands.{Stands}
-use Rattle.vrplib_read.specs.OfText.{known_nodes, has_bad_depots}
-use Rattle.vrplib_read.specs.WholeText.{missing_key, has_wrong_reference, is_depot_place, has_missed_shift, has_long_leg, whole_fault}
-use Rattle.vrplib_read.proofs.WholeFacts.{length-counted}
+use Rattle.vrplib_model.specs.declared.rule.Rule.{Rule}
+use Rattle.vrplib_model.specs.declared.rule.Rule.TheVariants.{BadDepot, BadVehicle, BadGroup, EmptyWindow, Limit}
+use Rattle.vrplib_model.specs.LineKinds.{Line}
+use Rattle.vrplib_model.specs.Checks.{broken_if, first_of}
+use Rattle.vrplib_model.specs.Entries.{counted, coordinates, nodes, depot_nodes, depot_count, client_count, client_nodes}
+use Rattle.vrplib_model.specs.Fleet.{types}
+use Rattle.vrplib_model.specs.Legs.{profiles}
+use Rattle.vrplib_model.specs.Meaning.{groups, depot, client, problem_of}
+use Rattle.vrplib_read.specs.inside.Stands.{Stands}
+use Rattle.vrplib_read.specs.inside.OfText.{known_nodes, has_bad_depots}
+use Rattle.vrplib_model.specs.WholeText.{missing_key, has_wrong_reference, is_depot_place, has_missed_shift, has_long_leg, whole_fault}
+use Rattle.vrplib_model.proofs.WholeFacts.{length-counted}
 use Rattle.vrplib_read.proofs.Standing.{nodes_stand}
 
 pub fault_missing : (mode : Rounding) (all : List Line) (rule : Rule) → missing_key all ≡ Some rule → whole_fault mode all ≡ Some rule

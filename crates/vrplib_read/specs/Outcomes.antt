@@ -3,9 +3,9 @@ use Rattle.std.specs.Prelude.{◌≡◌, ⊤, ℕ, List, Ok, Err}
 use Rattle.problem_data.specs.declared.problem.Problem.{Problem}
 use Rattle.problem_data.specs.Valid.{IsValid}
 use Rattle.vrp_num.specs.declared.rounding.Rounding.{Rounding}
-use Rattle.vrplib_read.specs.declared.refusal.ReadFault.{ReadFault}
-use Rattle.vrplib_read.specs.declared.refusal.ReadFault.TheVariants.{Refused, NoMemory}
-use Rattle.vrplib_read.specs.Reading.{read}
+use Rattle.vrplib_read.specs.declared.read_fault.ReadFault.{ReadFault}
+use Rattle.vrplib_read.specs.declared.read_fault.ReadFault.TheVariants.{Refused, NoMemory}
+use Rattle.vrplib_model.specs.Reading.{read}
 
 -- the problem is the one that the text is read as, and valid
 pub record IsReading (mode : Rounding) (text : List ℕ) (problem : Problem) : Type 0 where

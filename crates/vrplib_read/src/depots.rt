@@ -1,14 +1,14 @@
 //! The depots of a text.
 ghost use Rattle.std.specs.Prelude.{◌≡◌, ◌^◌, ◌≤◌, ◌<◌, MatchOption, IfSome, false, length, true};
 ghost use Rattle.std.specs.List.{list_any};
-ghost use Rattle.vrplib_read.specs.Rows.{nodes_of};
-ghost use Rattle.vrplib_read.specs.Entries.{counted, depot_nodes};
-ghost use Rattle.vrplib_read.specs.OfText.{OfText, known_nodes, are_first, are_first_below, has_bad_depots, next_count};
-ghost use Rattle.vrplib_read.specs.WholeText.{has_other_depots, is_client_like};
+ghost use Rattle.vrplib_model.specs.Rows.{nodes_of};
+ghost use Rattle.vrplib_model.specs.Entries.{counted, depot_nodes};
+ghost use Rattle.vrplib_read.specs.inside.OfText.{OfText, known_nodes, are_first, are_first_below, has_bad_depots, next_count};
+ghost use Rattle.vrplib_model.specs.WholeText.{has_other_depots, is_client_like};
 
 use crate::entries::{is_client_like, node_count};
 use crate::reading::Reading;
-use crate::section::Section;
+use vrplib_model::Section;
 
 /// How many nodes are among the numbers of a depot section, where they are 1, 2 and so on.
 fn count_in_order(numbers: &[i64]) -> Option<usize>

@@ -2,31 +2,29 @@
 ghost use Rattle.std.specs.Prelude.{◌≡◌, ◌==◌, ◌≤◌, ◌+◌, ◌-◌, ◌<◌, All, IfOk, IfSome, IsTrue, find, length, map, pos};
 ghost use Rattle.std.specs.Option.{option_copied, option_map_or};
 ghost use Rattle.indexmap.specs.IndexMap.{get};
+ghost use Rattle.problem_data.specs.Limits.{most_places};
 ghost use Rattle.problem_data.specs.Valid.{IsValidPlace};
-ghost use Rattle.vrplib_read.specs.Sections.{is_by_node, same_section};
-ghost use Rattle.vrplib_read.specs.Numbers.{int_at, number_at};
-ghost use Rattle.vrplib_read.specs.Entries.{entry, coordinates, counted, nodes, window, client_service};
-ghost use Rattle.vrplib_read.specs.Kept.{IsRow};
-ghost use Rattle.vrplib_read.specs.Meaning.{client, depot};
-ghost use Rattle.vrplib_read.specs.WholeText.{is_client_like};
-ghost use Rattle.vrplib_read.specs.OfText.{OfText, known_nodes};
+ghost use Rattle.vrplib_model.specs.Sections.{is_by_node, same_section};
+ghost use Rattle.vrplib_model.specs.Numbers.{int_at, number_at};
+ghost use Rattle.vrplib_model.specs.Entries.{entry, coordinates, counted, nodes, window, client_service};
+ghost use Rattle.vrplib_model.specs.inside.FaultlessRows.{IsRow};
+ghost use Rattle.vrplib_model.specs.Meaning.{client, depot};
+ghost use Rattle.vrplib_model.specs.WholeText.{is_client_like};
+ghost use Rattle.vrplib_read.specs.inside.OfText.{OfText, known_nodes};
 
 use crate::groups::group_of;
 use crate::reading::Reading;
-use crate::rows::Rows;
-use crate::section::Section;
-use problem_data::{Client, Depot, Place, Window};
+use problem_data::{Client, Depot, LARGEST, Place, Window};
 use std::alloc::{AllocError, Global};
-
-/// The largest time.
-const LARGEST: u64 = 1_000_000_000_000;
+use vrplib_model::Section;
+use vrplib_rows::Rows;
 
 /// How many nodes the text has, or 0 where it doesn't say.
 pub(crate) fn node_count(reading: &Reading) -> u32
     ensures known { result ≡ known_nodes reading.now }
-    ensures limit { result ≤ 2048 }
+    ensures limit { result ≤ most_places }
 {
-    match reading.words.dimension {
+    match reading.keywords.dimension {
         Some(nodes) => nodes,
         None => 0,
     }
@@ -145,7 +143,7 @@ fn client_service(reading: &Reading, node: u32) -> u64
     requires { node ≤ known_nodes reading.now }
     ensures { OfText reading.now (λ all. result ≡ client_service reading.now.mode all node) }
 {
-    let other = reading.words.service_time.unwrap_or(0);
+    let other = reading.keywords.service_time.unwrap_or(0);
     entry(reading, Section::ServiceTime, 1, other, node)
 }
 

@@ -1,30 +1,26 @@
 //! The vehicle types that a text gives.
 ghost use Rattle.std.specs.Prelude.{◌≡◌, ◌+◌, ◌<◌, IfOk, drop, map};
 ghost use Rattle.std.specs.List.{list_all};
-ghost use Rattle.vrplib_read.specs.Rows.{nodes_of};
-ghost use Rattle.vrplib_read.specs.Entries.{client_count, place_of};
-ghost use Rattle.vrplib_read.specs.Fleet.{only_type, type_of_row, types};
-ghost use Rattle.vrplib_read.specs.Kept.{IsBetween, IsTypeRow};
-ghost use Rattle.vrplib_read.specs.Numbers.{int_at, number_at};
-ghost use Rattle.vrplib_read.specs.OfText.{OfText, known_nodes};
-ghost use Rattle.vrplib_read.specs.WholeText.{are_apart, has_missed_shift, has_wrong_reference, is_depot_place};
+ghost use Rattle.problem_data.specs.Limits.{most_places};
+ghost use Rattle.vrplib_model.specs.Rows.{nodes_of};
+ghost use Rattle.vrplib_model.specs.Entries.{client_count, place_of};
+ghost use Rattle.vrplib_model.specs.Fleet.{only_type, type_of_row, types};
+ghost use Rattle.vrplib_model.specs.inside.FaultlessRows.{IsBetween, IsTypeRow};
+ghost use Rattle.vrplib_model.specs.Numbers.{int_at, number_at};
+ghost use Rattle.vrplib_read.specs.inside.OfText.{OfText, known_nodes};
+ghost use Rattle.vrplib_model.specs.WholeText.{are_apart, has_missed_shift, has_wrong_reference, is_depot_place};
 
 use crate::entries::{number_at, window};
 use crate::groups::places_of;
 use crate::reading::Reading;
-use crate::rows::Rows;
-use crate::section::Section;
-use problem_data::{PlaceList, VehicleType, Window};
+use problem_data::{LARGEST, PlaceList, UNLIMITED, VehicleType, Window};
 use std::alloc::{AllocError, Global};
-
-/// The largest quantity.
-const LARGEST: u64 = 1_000_000_000_000;
-/// A route's maximum where there is none.
-const UNLIMITED: u64 = 1_000_000_000_000_000_000;
+use vrplib_model::Section;
+use vrplib_rows::Rows;
 
 /// A small number of a row.
 fn small_number_at(row: &[i64], k: usize) -> u32
-    requires { IsBetween 0 2048 (int_at k row.now) }
+    requires { IsBetween 0 most_places (int_at k row.now) }
     ensures { result ≡ number_at k row.now }
 {
     number_at(row, k) as u32
@@ -32,7 +28,7 @@ fn small_number_at(row: &[i64], k: usize) -> u32
 
 /// The place of a node of a row.
 fn place_at(row: &[i64], k: usize) -> u32
-    requires { IsBetween 1 2048 (int_at k row.now) }
+    requires { IsBetween 1 most_places (int_at k row.now) }
     ensures { result ≡ place_of (number_at k row.now) }
 {
     small_number_at(row, k) - 1
@@ -40,7 +36,7 @@ fn place_at(row: &[i64], k: usize) -> u32
 
 /// The places where a vehicle of the type may reload.
 fn reload_depots(alloc: Global, row: &[i64]) -> Result<PlaceList, AllocError>
-    requires { IsTypeRow 2048 row.now }
+    requires { IsTypeRow most_places row.now }
     ensures { IfOk result (λ places. places ≡ map place_of (nodes_of (drop 14 row.now))) }
 {
     Ok(PlaceList::from_vec(places_of(alloc, &row[14..])?))
@@ -48,7 +44,7 @@ fn reload_depots(alloc: Global, row: &[i64]) -> Result<PlaceList, AllocError>
 
 /// The vehicle type that a row gives.
 fn type_of_row(alloc: Global, row: &[i64]) -> Result<VehicleType, AllocError>
-    requires { IsTypeRow 2048 row.now }
+    requires { IsTypeRow most_places row.now }
     ensures { IfOk result (λ made. made ≡ type_of_row row.now) }
 {
     Ok(VehicleType {
@@ -89,10 +85,10 @@ fn only_type(alloc: Global, reading: &Reading, clients: u32) -> VehicleType
     requires { OfText reading.now (λ all. client_count reading.now.mode all ≡ clients) }
     ensures { OfText reading.now (λ all. result ≡ only_type reading.now.mode all) }
 {
-    let words = &reading.words;
+    let keywords = &reading.keywords;
     VehicleType {
-        count: words.vehicles.unwrap_or(clients),
-        capacity: words.capacity.unwrap_or(LARGEST),
+        count: keywords.vehicles.unwrap_or(clients),
+        capacity: keywords.capacity.unwrap_or(LARGEST),
         start: 0,
         end: 0,
         fixed: 0,
@@ -102,8 +98,8 @@ fn only_type(alloc: Global, reading: &Reading, clients: u32) -> VehicleType
             early: 0,
             late: LARGEST,
         },
-        max_duration: words.max_duration.unwrap_or(UNLIMITED),
-        max_distance: words.max_distance.unwrap_or(UNLIMITED),
+        max_duration: keywords.max_duration.unwrap_or(UNLIMITED),
+        max_distance: keywords.max_distance.unwrap_or(UNLIMITED),
         profile: 0,
         reloads: 0,
         reload_depots: PlaceList::from_vec(Vec::new(alloc)),
@@ -126,11 +122,14 @@ pub(crate) fn types(
 }
 
 /// Whether a type starts, ends or reloads at a place that is no depot, or drives by a profile that isn't there.
-pub(crate) fn has_wrong_reference(depots: u32, profiles: usize, kind: &VehicleType) -> bool
-    ensures { result ≡ has_wrong_reference depots profiles kind.now }
+pub(crate) fn has_wrong_reference(depots: u32, profiles: usize, vehicle_type: &VehicleType) -> bool
+    ensures { result ≡ has_wrong_reference depots profiles vehicle_type.now }
 {
-    let all_reloads = are_depots(depots, kind.reload_depots.items());
-    !(kind.start < depots && kind.end < depots && all_reloads && (kind.profile as usize) < profiles)
+    let all_reloads = are_depots(depots, vehicle_type.reload_depots.items());
+    !(vehicle_type.start < depots
+        && vehicle_type.end < depots
+        && all_reloads
+        && (vehicle_type.profile as usize) < profiles)
 }
 
 /// Whether all places are depots.
@@ -148,11 +147,11 @@ fn are_apart(a: Window, b: Window) -> bool
 }
 
 /// Whether the shift of a type doesn't meet the window of its start or of its end.
-pub(crate) fn has_missed_shift(reading: &Reading, kind: &VehicleType) -> bool
-    requires start { kind.now.start < known_nodes reading.now }
-    requires end { kind.now.end < known_nodes reading.now }
-    ensures { OfText reading.now (λ all. result ≡ has_missed_shift reading.now.mode all kind.now) }
+pub(crate) fn has_missed_shift(reading: &Reading, vehicle_type: &VehicleType) -> bool
+    requires start { vehicle_type.now.start < known_nodes reading.now }
+    requires end { vehicle_type.now.end < known_nodes reading.now }
+    ensures { OfText reading.now (λ all. result ≡ has_missed_shift reading.now.mode all vehicle_type.now) }
 {
-    are_apart(kind.shift, window(reading, kind.start + 1))
-        || are_apart(kind.shift, window(reading, kind.end + 1))
+    are_apart(vehicle_type.shift, window(reading, vehicle_type.start + 1))
+        || are_apart(vehicle_type.shift, window(reading, vehicle_type.end + 1))
 }

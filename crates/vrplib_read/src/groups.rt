@@ -1,21 +1,22 @@
 //! The groups of clients of which one is visited.
 ghost use Rattle.std.specs.Prelude.{◌≡◌, ◌≤◌, ◌==◌, All, IfOk, drop, length, map, nat_abs, position};
 ghost use Rattle.std.specs.List.{list_any};
-ghost use Rattle.vrplib_read.specs.Rows.{nodes_of};
-ghost use Rattle.vrplib_read.specs.Entries.{place_of};
-ghost use Rattle.vrplib_read.specs.Kept.{IsBetween};
-ghost use Rattle.vrplib_read.specs.Meaning.{groups, group_of};
-ghost use Rattle.vrplib_read.specs.OfText.{OfText, known_nodes, group_places};
+ghost use Rattle.problem_data.specs.Limits.{most_places};
+ghost use Rattle.vrplib_model.specs.Rows.{nodes_of};
+ghost use Rattle.vrplib_model.specs.Entries.{place_of};
+ghost use Rattle.vrplib_model.specs.inside.FaultlessRows.{IsBetween};
+ghost use Rattle.vrplib_model.specs.Meaning.{groups, group_of};
+ghost use Rattle.vrplib_read.specs.inside.OfText.{OfText, known_nodes, group_places};
 
 use crate::reading::Reading;
-use crate::rows::Rows;
-use crate::section::Section;
 use problem_data::PlaceList;
 use std::alloc::{AllocError, Global};
+use vrplib_model::Section;
+use vrplib_rows::Rows;
 
 /// The places of nodes.
 pub(crate) fn places_of(alloc: Global, nodes: &[i64]) -> Result<Vec<u32>, AllocError>
-    requires { All (IsBetween 1 2048) nodes.now }
+    requires { All (IsBetween 1 most_places) nodes.now }
     ensures { IfOk result (λ places. places.items ≡ map place_of (nodes_of nodes.now)) }
 {
     let mut places = Vec::with_capacity(alloc, nodes.len())?;
@@ -27,7 +28,7 @@ pub(crate) fn places_of(alloc: Global, nodes: &[i64]) -> Result<Vec<u32>, AllocE
 
 /// The place of a node.
 fn place_of(node: i64) -> u32
-    requires { IsBetween 1 2048 node }
+    requires { IsBetween 1 most_places node }
     ensures { result ≡ place_of (nat_abs node) }
 {
     (node - 1) as u32
@@ -36,7 +37,7 @@ fn place_of(node: i64) -> u32
 /// The places that a row of a group names.
 fn group_places(alloc: Global, row: &[i64]) -> Result<PlaceList, AllocError>
     requires some { 1 ≤ length row.now }
-    requires bounds { All (IsBetween 1 2048) (drop 1 row.now) }
+    requires bounds { All (IsBetween 1 most_places) (drop 1 row.now) }
     ensures { IfOk result (λ places. places ≡ group_places row.now) }
 {
     Ok(PlaceList::from_vec(places_of(alloc, &row[1..])?))

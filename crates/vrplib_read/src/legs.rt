@@ -1,29 +1,29 @@
 //! The legs between all nodes, by their coordinates (TSPLIB 95, EUC_2D) or as the text gives them (EXPLICIT).
 ghost use Rattle.std.specs.Prelude.{◌≡◌, ◌≢◌, ◌*◌, ◌^◌, ◌≤◌, ◌<◌, ◌++◌, All, IfOk, OnOk, true, false, length, map};
 ghost use Rattle.std.specs.List.{flat_map};
+ghost use Rattle.problem_data.specs.Limits.{largest_leg, most_places};
 ghost use Rattle.problem_data.specs.Valid.{IsValidPlace};
-ghost use Rattle.vrplib_read.specs.Entries.{coordinates, counted, nodes};
-ghost use Rattle.vrplib_read.specs.Kept.{IsBetween};
-ghost use Rattle.vrplib_read.specs.Numbers.{number_at};
-ghost use Rattle.vrplib_read.specs.Values.{is_explicit};
-ghost use Rattle.vrplib_read.specs.Legs.{base_leg, full_place, lower_place, upper_place};
-ghost use Rattle.vrplib_read.specs.OfText.{OfText, known_nodes, known_weights, place_by, place_leg, weight_leg};
+ghost use Rattle.vrplib_model.specs.Entries.{coordinates, counted, nodes};
+ghost use Rattle.vrplib_model.specs.inside.FaultlessRows.{IsBetween};
+ghost use Rattle.vrplib_model.specs.Numbers.{number_at};
+ghost use Rattle.vrplib_model.specs.Values.{is_explicit};
+ghost use Rattle.vrplib_model.specs.Legs.{base_leg, full_place, lower_place, upper_place};
+ghost use Rattle.vrplib_read.specs.inside.OfText.{OfText, known_nodes, known_weights, place_by, place_leg, weight_leg};
 
 use crate::entries::{node_count, number_at};
 use crate::reading::Reading;
-use crate::rows::Rows;
-use crate::section::Section;
-use crate::words::{WeightFormat, WeightType};
 use problem_data::Place;
 use std::alloc::{AllocError, Global};
 use vrp_num::{Rounding, euclid};
+use vrplib_model::Section;
+use vrplib_rows::{Rows, WeightFormat, WeightType};
 
 /// The distance of two places.
 fn place_leg(mode: Rounding, a: &Place, b: &Place) -> u32
     requires a { IsValidPlace a.now }
     requires b { IsValidPlace b.now }
     ensures leg { result ≡ place_leg mode a.now b.now }
-    ensures bound { result ≤ 4 * 10 ^ 9 }
+    ensures bound { result ≤ largest_leg }
 {
     euclid(mode, (a.x, a.y), (b.x, b.y)) as u32
 }
@@ -47,7 +47,7 @@ fn push_distances(
 
 /// The distances of all places from each, row by row.
 fn distances(alloc: Global, mode: Rounding, places: &[Place]) -> Result<Vec<u32>, AllocError>
-    requires count { length places.now ≤ 2048 }
+    requires count { length places.now ≤ most_places }
     requires places { All IsValidPlace places.now }
     ensures { IfOk result (λ legs. legs.items ≡ flat_map (λ a. map (place_leg mode a) places.now) places.now) }
 {
@@ -60,7 +60,7 @@ fn distances(alloc: Global, mode: Rounding, places: &[Place]) -> Result<Vec<u32>
 
 /// Where a leg stands among the weights of a whole table, row by row.
 fn full_place(nodes: u32, from: u32, to: u32) -> usize
-    requires nodes { nodes ≤ 2048 }
+    requires nodes { nodes ≤ most_places }
     requires from { (1 ≤ from) × (from ≤ nodes) }
     requires to { (1 ≤ to) × (to ≤ nodes) }
     ensures { result ≡ full_place nodes from to }
@@ -70,7 +70,7 @@ fn full_place(nodes: u32, from: u32, to: u32) -> usize
 
 /// The same in the lower triangle without its diagonal.
 fn lower_place(from: u32, to: u32) -> usize
-    requires from { from ≤ 2048 }
+    requires from { from ≤ most_places }
     requires to { (1 ≤ to) × (to < from) }
     ensures { result ≡ lower_place from to }
 {
@@ -79,7 +79,7 @@ fn lower_place(from: u32, to: u32) -> usize
 
 /// The same in the upper triangle without its diagonal.
 fn upper_place(nodes: u32, from: u32, to: u32) -> usize
-    requires nodes { nodes ≤ 2048 }
+    requires nodes { nodes ≤ most_places }
     requires from { (1 ≤ from) × (from < to) }
     requires to { to ≤ nodes }
     ensures { result ≡ upper_place nodes from to }
@@ -90,7 +90,7 @@ fn upper_place(nodes: u32, from: u32, to: u32) -> usize
 
 /// The same by the format; a triangle has one number for both directions.
 fn weight_place(format: Option<WeightFormat>, nodes: u32, from: u32, to: u32) -> usize
-    requires nodes { nodes ≤ 2048 }
+    requires nodes { nodes ≤ most_places }
     requires from { (1 ≤ from) × (from ≤ nodes) }
     requires to { (1 ≤ to) × (to ≤ nodes) }
     requires differ { from ≢ to }
@@ -107,17 +107,17 @@ fn weight_place(format: Option<WeightFormat>, nodes: u32, from: u32, to: u32) ->
 
 /// The number at a place among the weights, or 0 where there is none.
 fn weight_at(weights: &[i64], place: usize) -> u32
-    requires { All (IsBetween 0 (4 * 10 ^ 9)) weights.now }
+    requires { All (IsBetween 0 largest_leg) weights.now }
     ensures weight { result ≡ number_at place weights.now }
-    ensures bound { result ≤ 4 * 10 ^ 9 }
+    ensures bound { result ≤ largest_leg }
 {
     number_at(weights, place) as u32
 }
 
 /// The leg that the weights give.
 fn weight_leg(format: Option<WeightFormat>, nodes: u32, weights: &[i64], from: u32, to: u32) -> u32
-    requires nodes { nodes ≤ 2048 }
-    requires weights { All (IsBetween 0 (4 * 10 ^ 9)) weights.now }
+    requires nodes { nodes ≤ most_places }
+    requires weights { All (IsBetween 0 largest_leg) weights.now }
     requires from { (1 ≤ from) × (from ≤ nodes) }
     requires to { (1 ≤ to) × (to ≤ nodes) }
     ensures { result ≡ weight_leg format nodes weights.now from to }
@@ -137,8 +137,8 @@ fn push_weights(
     weights: &[i64],
     from: u32,
 ) -> Result<(), AllocError>
-    requires nodes { nodes ≤ 2048 }
-    requires weights { All (IsBetween 0 (4 * 10 ^ 9)) weights.now }
+    requires nodes { nodes ≤ most_places }
+    requires weights { All (IsBetween 0 largest_leg) weights.now }
     requires from { (1 ≤ from) × (from ≤ nodes) }
     ensures { OnOk result (legs.new.items ≡ legs.old.items ++ map (weight_leg format nodes weights.now from) (counted 1 nodes)) }
 {
@@ -155,8 +155,8 @@ fn weight_legs(
     nodes: u32,
     weights: &[i64],
 ) -> Result<Vec<u32>, AllocError>
-    requires nodes { nodes ≤ 2048 }
-    requires weights { All (IsBetween 0 (4 * 10 ^ 9)) weights.now }
+    requires nodes { nodes ≤ most_places }
+    requires weights { All (IsBetween 0 largest_leg) weights.now }
     ensures { IfOk result (λ legs. legs.items ≡ flat_map (λ i. map (weight_leg format nodes weights.now i) (counted 1 nodes)) (counted 1 nodes)) }
 {
     let mut legs = Vec::with_capacity(alloc, nodes as usize * nodes as usize)?;
@@ -169,7 +169,7 @@ fn weight_legs(
 /// The numbers of the section of weights.
 fn weights(reading: &Reading) -> &[i64]
     ensures weights { result.now ≡ known_weights reading.now }
-    ensures bounds { All (IsBetween 0 (4 * 10 ^ 9)) result.now }
+    ensures bounds { All (IsBetween 0 largest_leg) result.now }
 {
     match reading.rows_of(Section::EdgeWeight) {
         Some(rows) => weights_of(rows),
@@ -181,7 +181,7 @@ fn weights(reading: &Reading) -> &[i64]
 fn weights_of(rows: &Rows) -> &[i64]
     requires { rows.now.section ≡ Section.EdgeWeight }
     ensures weights { result.now ≡ flat_map (λ row. row) rows.now.rows }
-    ensures bounds { All (IsBetween 0 (4 * 10 ^ 9)) result.now }
+    ensures bounds { All (IsBetween 0 largest_leg) result.now }
 {
     rows.numbers()
 }
@@ -189,12 +189,12 @@ fn weights_of(rows: &Rows) -> &[i64]
 /// The legs of all nodes as the text gives them, row by row.
 fn explicit_legs(alloc: Global, reading: &Reading) -> Result<Vec<u32>, AllocError>
     ensures legs { IfOk result (λ legs. OfText reading.now (λ all. is_explicit all ≡ true → legs.items ≡ flat_map (λ i. map (base_leg reading.now.mode all i) (nodes reading.now.mode all)) (nodes reading.now.mode all))) }
-    ensures bound { IfOk result (λ legs. All (λ leg. leg ≤ 4 * 10 ^ 9) legs.items) }
+    ensures bound { IfOk result (λ legs. All (λ leg. leg ≤ largest_leg) legs.items) }
     ensures count { IfOk result (λ legs. length legs.items ≡ known_nodes reading.now * known_nodes reading.now) }
 {
     weight_legs(
         alloc,
-        reading.words.weight_format,
+        reading.keywords.weight_format,
         node_count(reading),
         weights(reading),
     )
@@ -209,9 +209,9 @@ fn euclidean_legs(
     requires places { OfText reading.now (λ all. places.now ≡ map (coordinates reading.now.mode all) (nodes reading.now.mode all)) }
     requires valid { All IsValidPlace places.now }
     requires count { length places.now ≡ known_nodes reading.now }
-    requires limit { known_nodes reading.now ≤ 2048 }
+    requires limit { known_nodes reading.now ≤ most_places }
     ensures legs { IfOk result (λ legs. OfText reading.now (λ all. is_explicit all ≡ false → legs.items ≡ flat_map (λ i. map (base_leg reading.now.mode all i) (nodes reading.now.mode all)) (nodes reading.now.mode all))) }
-    ensures bound { IfOk result (λ legs. All (λ leg. leg ≤ 4 * 10 ^ 9) legs.items) }
+    ensures bound { IfOk result (λ legs. All (λ leg. leg ≤ largest_leg) legs.items) }
     ensures count { IfOk result (λ legs. length legs.items ≡ known_nodes reading.now * known_nodes reading.now) }
 {
     distances(alloc, reading.mode, places)
@@ -221,7 +221,7 @@ fn euclidean_legs(
 fn is_explicit(reading: &Reading) -> bool
     ensures { OfText reading.now (λ all. result ≡ is_explicit all) }
 {
-    match reading.words.weight_type {
+    match reading.keywords.weight_type {
         Some(WeightType::Explicit) => true,
         _ => false,
     }
@@ -236,9 +236,9 @@ pub(crate) fn base_legs(
     requires places { OfText reading.now (λ all. places.now ≡ map (coordinates reading.now.mode all) (nodes reading.now.mode all)) }
     requires valid { All IsValidPlace places.now }
     requires count { length places.now ≡ known_nodes reading.now }
-    requires limit { known_nodes reading.now ≤ 2048 }
+    requires limit { known_nodes reading.now ≤ most_places }
     ensures legs { IfOk result (λ legs. OfText reading.now (λ all. legs.items ≡ flat_map (λ i. map (base_leg reading.now.mode all i) (nodes reading.now.mode all)) (nodes reading.now.mode all))) }
-    ensures bound { IfOk result (λ legs. All (λ leg. leg ≤ 4 * 10 ^ 9) legs.items) }
+    ensures bound { IfOk result (λ legs. All (λ leg. leg ≤ largest_leg) legs.items) }
     ensures count { IfOk result (λ legs. length legs.items ≡ known_nodes reading.now * known_nodes reading.now) }
 {
     if is_explicit(reading) {

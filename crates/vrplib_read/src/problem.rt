@@ -1,10 +1,10 @@
 //! The problem that a faultless text means.
 ghost use Rattle.std.specs.Prelude.{◌≡◌, ◌≤◌, IfOk, map};
-ghost use Rattle.vrplib_read.specs.Entries.{coordinates, counted, depot_nodes, nodes};
-ghost use Rattle.vrplib_read.specs.Fleet.{types};
-ghost use Rattle.vrplib_read.specs.Legs.{profiles};
-ghost use Rattle.vrplib_read.specs.Meaning.{groups, problem_of};
-ghost use Rattle.vrplib_read.specs.OfText.{OfText, known_nodes};
+ghost use Rattle.vrplib_model.specs.Entries.{coordinates, counted, depot_nodes, nodes};
+ghost use Rattle.vrplib_model.specs.Fleet.{types};
+ghost use Rattle.vrplib_model.specs.Legs.{profiles};
+ghost use Rattle.vrplib_model.specs.Meaning.{groups, problem_of};
+ghost use Rattle.vrplib_read.specs.inside.OfText.{OfText, known_nodes};
 
 use crate::entries::{clients, depots};
 use crate::reading::Reading;

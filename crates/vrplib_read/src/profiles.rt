@@ -2,22 +2,19 @@
 ghost use Rattle.std.specs.Prelude.{◌≡◌, ◌*◌, ◌/◌, ◌≤◌, All, IfOk, MatchOption, None, Some, if◌then◌else◌, false, length, map, true};
 ghost use Rattle.std.specs.List.{list_any};
 ghost use Rattle.problem_data.specs.Valid.{IsValidPlace};
-ghost use Rattle.vrplib_read.specs.Entries.{coordinates, nodes};
-ghost use Rattle.vrplib_read.specs.Kept.{IsProfileRow};
-ghost use Rattle.vrplib_read.specs.Legs.{profiles};
-ghost use Rattle.vrplib_read.specs.OfText.{OfText, known_nodes, is_long, scaled, scaled_profile};
-ghost use Rattle.vrplib_read.specs.WholeText.{has_long_leg};
+ghost use Rattle.vrplib_model.specs.Entries.{coordinates, nodes};
+ghost use Rattle.vrplib_model.specs.inside.FaultlessRows.{IsProfileRow};
+ghost use Rattle.vrplib_model.specs.Legs.{profiles};
+ghost use Rattle.vrplib_read.specs.inside.OfText.{OfText, known_nodes, is_long, scaled, scaled_profile};
+ghost use Rattle.vrplib_model.specs.WholeText.{has_long_leg};
 
 use crate::entries::{node_count, number_at};
 use crate::legs::base_legs;
 use crate::reading::Reading;
-use crate::rows::Rows;
-use crate::section::Section;
-use problem_data::{Matrix, Place, Profile};
+use problem_data::{LARGEST_LEG, Matrix, Place, Profile};
 use std::alloc::{AllocError, Global};
-
-/// The largest leg.
-const LARGEST_LEG: u64 = 4_000_000_000;
+use vrplib_model::Section;
+use vrplib_rows::Rows;
 
 /// A leg times a factor, in thousandths, cut; or none, where it is too long.
 fn scaled_leg(leg: u32, factor: u64) -> Option<u32>

@@ -1,19 +1,19 @@
 //! The reader.
 ghost use Rattle.std.specs.Prelude.{◌≡◌, [], ◌∷◌, IfErr, IfOk, None, Ok};
 ghost use Rattle.std.specs.Str.Lines.{lines};
-ghost use Rattle.vrplib_read.specs.LineKinds.{is_end, line_of};
+ghost use Rattle.vrplib_model.specs.LineKinds.{is_end, line_of};
 ghost use Rattle.vrplib_read.specs.Outcomes.{IsReading, RefusesAsRead};
-ghost use Rattle.vrplib_read.specs.Reading.{first_fault, lines_onto};
-ghost use Rattle.vrplib_read.specs.Stands.{Stands};
+ghost use Rattle.vrplib_model.specs.Reading.{first_fault, lines_onto};
+ghost use Rattle.vrplib_read.specs.inside.Stands.{Stands};
 
-use crate::line::{Line, line_of};
+use crate::read_fault::ReadFault;
 use crate::reading::Reading;
-use crate::refusal::{ReadFault, Refusal};
-use crate::text_lines::next_line;
 use crate::whole::whole_answer;
 use problem_data::Problem;
 use std::alloc::{AllocError, Global};
 use vrp_num::Rounding;
+use vrplib_model::Refusal;
+use vrplib_rows::{Line, line_of, next_line};
 
 /// Whether a line of the text is `EOF`, which ends the reading.
 fn is_end(text: &[u8]) -> bool
@@ -22,7 +22,7 @@ fn is_end(text: &[u8]) -> bool
     matches!(line_of(text), Line::EndOfFile)
 }
 
-/// The refusal at a text's first faulty line, the end standing for a line behind the last; the lines of a text without one are kept.
+/// The refusal at a text's first faulty line, the end standing for a line behind the last; the lines of a faultless text are kept.
 fn read_lines(
     alloc: Global,
     reading: &mut Reading,

@@ -2,9 +2,9 @@
 ghost use Rattle.std.specs.Prelude.{◌≡◌, true, is_some, unwrap_or};
 ghost use Rattle.std.specs.Option.{ForSome};
 ghost use Rattle.indexmap.specs.IndexMap.{get};
-ghost use Rattle.vrplib_read.specs.declared.position.Position.TheVariants.{Within};
-ghost use Rattle.vrplib_read.specs.declared.section.Section.{Section};
-ghost use Rattle.vrplib_read.specs.Sections.{same_section};
+ghost use Rattle.vrplib_model.specs.declared.position.Position.TheVariants.{Within};
+ghost use Rattle.vrplib_model.specs.declared.section.Section.{Section};
+ghost use Rattle.vrplib_model.specs.Sections.{same_section};
 
 mod keyword_line;
 mod row_line;
@@ -12,15 +12,11 @@ mod section_line;
 mod section_map;
 mod shortness;
 
-use crate::line::{Line, line_of};
-use crate::position::Position;
-use crate::rows::Rows;
-use crate::rule::Rule;
-use crate::section::Section;
-use crate::words::Words;
 use indexmap::IndexMap;
 use std::alloc::{AllocError, Global};
 use vrp_num::Rounding;
+use vrplib_model::{Position, Rule, Section};
+use vrplib_rows::{Keywords, Line, Rows, line_of};
 
 /// What the reader keeps of the lines read so far: the values of keywords, and the sections with their rows, in the order of
 /// the file.
@@ -29,23 +25,23 @@ pub(crate) struct Reading {
     pub mode: Rounding,
     /// Where the next line stands.
     pub position: Position,
-    pub words: Words,
+    pub keywords: Keywords,
     pub sections: IndexMap<Section, Rows>,
-    ghost keyed: { (s : Section) → ForSome (get same_section sections s) (λ rows. (rows.section ≡ s) × (rows.nodes ≡ unwrap_or words.dimension 0)) },
-    ghost sized: { (s : Section) → ForSome (get same_section sections s) (λ rows. is_some words.dimension ≡ true) },
+    ghost keyed: { (s : Section) → ForSome (get same_section sections s) (λ rows. (rows.section ≡ s) × (rows.nodes ≡ unwrap_or keywords.dimension 0)) },
+    ghost sized: { (s : Section) → ForSome (get same_section sections s) (λ rows. is_some keywords.dimension ≡ true) },
     ghost opened: { (s : Section) → position ≡ Within s → is_some (get same_section sections s) ≡ true },
 }
 
 impl Reading {
     ghost use Rattle.std.specs.Prelude.{[], IfOk};
-    ghost use Rattle.vrplib_read.specs.declared.rule.Rule.TheVariants.{RowCount};
-    ghost use Rattle.vrplib_read.specs.Checks.{broken_if};
-    ghost use Rattle.vrplib_read.specs.LineKinds.{word_line};
-    ghost use Rattle.vrplib_read.specs.Kept.{told};
-    ghost use Rattle.vrplib_read.specs.Stands.{Stands};
-    ghost use Rattle.vrplib_read.specs.OfText.{OfText};
-    ghost use Rattle.vrplib_read.specs.Steps.{Judges, JudgesText};
-    ghost use Rattle.vrplib_read.specs.WordFaults.{is_short};
+    ghost use Rattle.vrplib_model.specs.declared.rule.Rule.TheVariants.{RowCount};
+    ghost use Rattle.vrplib_model.specs.Checks.{broken_if};
+    ghost use Rattle.vrplib_model.specs.LineKinds.{word_line};
+    ghost use Rattle.vrplib_rows.specs.Told.{told};
+    ghost use Rattle.vrplib_read.specs.inside.Stands.{Stands};
+    ghost use Rattle.vrplib_read.specs.inside.OfText.{OfText};
+    ghost use Rattle.vrplib_read.specs.inside.Steps.{Judges, JudgesText};
+    ghost use Rattle.vrplib_model.specs.WordFaults.{is_short};
 
     /// Nothing: no line was read.
     pub(crate) fn new(alloc: Global, mode: Rounding) -> Reading
@@ -54,7 +50,7 @@ impl Reading {
         Reading {
             mode,
             position: Position::Outside,
-            words: Words::new(),
+            keywords: Keywords::new(),
             sections: IndexMap::new(alloc),
         }
     }

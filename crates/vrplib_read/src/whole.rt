@@ -1,12 +1,12 @@
 //! The faults of a text as a whole, in their order, and the problem of a text that has none.
 ghost use Rattle.std.specs.Prelude.{◌≡◌, ◌≤◌, ◌<◌, [], ◌∷◌, All, IfOk, IfNone, MatchResult, None, Some, length, not};
 ghost use Rattle.std.specs.List.{list_any};
-ghost use Rattle.vrplib_read.specs.Checks.{broken_if, first_of};
-ghost use Rattle.vrplib_read.specs.Rows.{has_section};
-ghost use Rattle.vrplib_read.specs.Legs.{profiles};
-ghost use Rattle.vrplib_read.specs.Meaning.{problem_of};
-ghost use Rattle.vrplib_read.specs.OfText.{OfText, known_nodes, StartsWithin};
-ghost use Rattle.vrplib_read.specs.WholeText.{has_missed_shift, has_wrong_reference, is_depot_place, missing_key, whole_fault};
+ghost use Rattle.vrplib_model.specs.Checks.{broken_if, first_of};
+ghost use Rattle.vrplib_model.specs.Rows.{has_section};
+ghost use Rattle.vrplib_model.specs.Legs.{profiles};
+ghost use Rattle.vrplib_model.specs.Meaning.{problem_of};
+ghost use Rattle.vrplib_read.specs.inside.OfText.{OfText, known_nodes, StartsWithin};
+ghost use Rattle.vrplib_model.specs.WholeText.{has_missed_shift, has_wrong_reference, is_depot_place, missing_key, whole_fault};
 
 use crate::depots::depot_count;
 use crate::entries::{node_count, places};
@@ -15,11 +15,10 @@ use crate::groups::groups;
 use crate::problem::problem;
 use crate::profiles::profiles;
 use crate::reading::Reading;
-use crate::rule::{Key, Rule};
-use crate::section::Section;
-use crate::words::WeightType;
 use problem_data::{PlaceList, Problem, VehicleType};
 use std::alloc::{AllocError, Global};
+use vrplib_model::{Key, Rule, Section};
+use vrplib_rows::WeightType;
 
 /// Whether the text has a section.
 fn has_section(reading: &Reading, section: Section) -> bool
@@ -44,7 +43,7 @@ fn missing_key(reading: &Reading) -> Option<Rule>
     ensures missing { OfText reading.now (λ all. result ≡ missing_key all) }
     ensures nodes { IfNone result (2 ≤ known_nodes reading.now) }
 {
-    match (reading.words.dimension, reading.words.weight_type) {
+    match (reading.keywords.dimension, reading.keywords.weight_type) {
         (None, _) => Some(Rule::Missing(Key::Dimension)),
         (Some(_), None) => Some(Rule::Missing(Key::EdgeWeightType)),
         (Some(_), Some(WeightType::Euclidean)) => {
@@ -70,9 +69,7 @@ fn profile_count(reading: &Reading) -> usize
 fn has_bad_vehicle(depots: u32, profiles: usize, types: &[VehicleType]) -> bool
     ensures { result ≡ list_any (has_wrong_reference depots profiles) types.now }
 {
-    types
-        .iter()
-        .any(|kind| has_wrong_reference(depots, profiles, kind))
+    types.iter().any(|vehicle_type| has_wrong_reference(depots, profiles, vehicle_type))
 }
 
 /// Whether a depot is among the places.
@@ -94,8 +91,8 @@ fn has_empty_window(reading: &Reading, types: &[VehicleType]) -> bool
     requires { All (StartsWithin (known_nodes reading.now)) types.now }
     ensures { OfText reading.now (λ all. result ≡ list_any (has_missed_shift reading.now.mode all) types.now) }
 {
-    for kind in types {
-        if has_missed_shift(reading, kind) {
+    for vehicle_type in types {
+        if has_missed_shift(reading, vehicle_type) {
             return true;
         }
     }

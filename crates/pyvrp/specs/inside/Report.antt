@@ -4,8 +4,8 @@ use Rattle.problem_data.specs.declared.problem.Problem.{Problem}
 use Rattle.problem_data.specs.declared.problem.Solution.{Solution}
 use Rattle.early_search.specs.declared.search.Found.{Found as SearchFound}
 use Rattle.routing_model.specs.Best.{Best, Found}
-use Rattle.vrplib_read.specs.declared.refusal.ReadFault.{ReadFault}
-use Rattle.vrplib_read.specs.declared.refusal.ReadFault.TheVariants as fault
+use Rattle.vrplib_read.specs.declared.read_fault.ReadFault.{ReadFault}
+use Rattle.vrplib_read.specs.declared.read_fault.ReadFault.TheVariants as fault
 use Rattle.routing_model.specs.Routes.{Routes}
 use Rattle.vrp_texts.specs.Printed.{solution_text}
 use Rattle.command_model.specs.Outcomes as model

@@ -1,12 +1,11 @@
 //! A keyword's line.
-ghost use Rattle.vrplib_read.specs.LineKinds.{keyword_line};
-ghost use Rattle.vrplib_read.specs.Lines.{tokens};
-ghost use Rattle.vrplib_read.specs.OfText.{OfText};
-ghost use Rattle.vrplib_read.specs.Steps.{Judges};
+ghost use Rattle.vrplib_model.specs.LineKinds.{keyword_line};
+ghost use Rattle.vrplib_model.specs.Lines.{tokens};
+ghost use Rattle.vrplib_read.specs.inside.OfText.{OfText};
+ghost use Rattle.vrplib_read.specs.inside.Steps.{Judges};
 
-use crate::position::Position;
 use crate::reading::Reading;
-use crate::rule::Rule;
+use vrplib_model::{Position, Rule};
 
 impl Reading {
     /// The first fault of a keyword's line, which ends the section that is open; the value of a faultless one is kept.
@@ -17,6 +16,6 @@ impl Reading {
             return Some(Rule::RowCount);
         }
         self.position = Position::Outside;
-        self.words.read_line(self.mode, key, value)
+        self.keywords.read_line(self.mode, key, value)
     }
 }

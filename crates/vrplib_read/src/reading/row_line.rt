@@ -2,24 +2,23 @@
 ghost use Rattle.std.specs.Prelude.{◌≡◌, IfOk, option_map, if◌then◌else◌};
 ghost use Rattle.std.specs.List.{list_any};
 ghost use Rattle.indexmap.specs.IndexMap.{get};
-ghost use Rattle.vrplib_read.specs.declared.position.Position.TheVariants.{Within};
-ghost use Rattle.vrplib_read.specs.LineKinds.{row};
-ghost use Rattle.vrplib_read.specs.Lines.{tokens};
-ghost use Rattle.vrplib_read.specs.Numbers.{is_minus_one_token};
-ghost use Rattle.vrplib_read.specs.RowFaults.{row_fault};
-ghost use Rattle.vrplib_read.specs.Rows.{after_row};
-ghost use Rattle.vrplib_read.specs.Sections.{Section, depot_section, same_section};
-ghost use Rattle.vrplib_read.specs.OfText.{OfText};
-ghost use Rattle.vrplib_read.specs.Steps.{Judges, with_row};
+ghost use Rattle.vrplib_model.specs.declared.position.Position.TheVariants.{Within};
+ghost use Rattle.vrplib_model.specs.LineKinds.{row};
+ghost use Rattle.vrplib_model.specs.Lines.{tokens};
+ghost use Rattle.vrplib_model.specs.Numbers.{is_minus_one_token};
+ghost use Rattle.vrplib_model.specs.RowFaults.{row_fault};
+ghost use Rattle.vrplib_model.specs.Rows.{after_row};
+ghost use Rattle.vrplib_model.specs.declared.section.Section.{Section};
+ghost use Rattle.vrplib_model.specs.declared.section.Section.TheVariants.{Depot as depot_section};
+ghost use Rattle.vrplib_model.specs.Sections.{same_section};
+ghost use Rattle.vrplib_read.specs.inside.OfText.{OfText};
+ghost use Rattle.vrplib_read.specs.inside.Steps.{Judges, with_row};
 
-use crate::numbers::is_minus_one_token;
-use crate::position::Position;
 use crate::reading::Reading;
 use crate::reading::section_map::add_row;
-use crate::rule::Rule;
-use crate::section::Section;
-use crate::tokens::next_token;
 use std::alloc::AllocError;
+use vrplib_model::{Position, Rule, Section};
+use vrplib_rows::{is_minus_one_token, next_token};
 
 /// Whether some token of a row is -1.
 fn has_minus_one(line: &[u8]) -> bool
@@ -60,12 +59,12 @@ impl Reading {
     /// Adds a faultless row to the section that is open, or names the first check that it fails.
     fn add_row(&mut self, section: Section, line: &[u8]) -> Result<Option<Rule>, AllocError>
         requires { self.old.position ≡ Within section }
-        ensures same { (self.new.mode ≡ self.old.mode) × (self.new.words ≡ self.old.words) × (self.new.position ≡ self.old.position) }
+        ensures same { (self.new.mode ≡ self.old.mode) × (self.new.keywords ≡ self.old.keywords) × (self.new.position ≡ self.old.position) }
         ensures fault { IfOk result (λ fault. OfText self.old (λ before. fault ≡ row_fault self.old.mode section (tokens line.now) before)) }
         ensures added { result ≡ Ok None → (s : Section) → get same_section self.new.sections s ≡ (if same_section section s
             then option_map (with_row self.old.mode (tokens line.now)) (get same_section self.old.sections section) else get same_section self.old.sections s) }
     {
-        let weights = self.words.weight_count();
+        let weights = self.keywords.weight_count();
         add_row(&mut self.sections, section, self.mode, weights, line)
     }
 

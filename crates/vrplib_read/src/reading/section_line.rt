@@ -1,23 +1,22 @@
 //! A section's line.
 ghost use Rattle.std.specs.Prelude.{◌≡◌, ◌||◌, [], ◌∷◌, IfOk, IsSome, OnOk, false, unwrap_or};
 ghost use Rattle.indexmap.specs.IndexMap.{get};
-ghost use Rattle.vrplib_read.specs.declared.rule.Rule.TheVariants.{Unsupported};
-ghost use Rattle.vrplib_read.specs.Checks.{broken_if};
-ghost use Rattle.vrplib_read.specs.Keywords.{is_of_vehicles};
-ghost use Rattle.vrplib_read.specs.LineKinds.{section_line};
-ghost use Rattle.vrplib_read.specs.Sections.{Section, same_section, section_of};
-ghost use Rattle.vrplib_read.specs.Stands.{Stands};
-ghost use Rattle.vrplib_read.specs.OfText.{OfText};
-ghost use Rattle.vrplib_read.specs.Steps.{Judges, fault_of_line, opened_rows};
-ghost use Rattle.vrplib_read.specs.WordFaults.{is_unsupported_section, repeats_section};
+ghost use Rattle.vrplib_model.specs.declared.rule.Rule.TheVariants.{Unsupported};
+ghost use Rattle.vrplib_model.specs.Checks.{broken_if};
+ghost use Rattle.vrplib_model.specs.Keywords.{is_of_vehicles};
+ghost use Rattle.vrplib_model.specs.LineKinds.{section_line};
+ghost use Rattle.vrplib_model.specs.declared.section.Section.{Section};
+ghost use Rattle.vrplib_model.specs.Sections.{same_section, section_of};
+ghost use Rattle.vrplib_read.specs.inside.Stands.{Stands};
+ghost use Rattle.vrplib_read.specs.inside.OfText.{OfText};
+ghost use Rattle.vrplib_read.specs.inside.Steps.{Judges, fault_of_line, opened_rows};
+ghost use Rattle.vrplib_model.specs.WordFaults.{is_unsupported_section, repeats_section};
 
-use crate::keyword::is_of_vehicles;
 use crate::reading::Reading;
 use crate::reading::section_map::put_rows;
-use crate::rows::Rows;
-use crate::rule::Rule;
-use crate::section::Section;
 use std::alloc::{AllocError, Global};
+use vrplib_model::{Rule, Section, is_of_vehicles};
+use vrplib_rows::Rows;
 
 impl Reading {
     /// Whether the section comes again.
@@ -36,7 +35,7 @@ impl Reading {
     {
         if is_of_vehicles(key) {
             Some(Rule::Unsupported)
-        } else if self.words.is_unsupported_section(section) {
+        } else if self.keywords.is_unsupported_section(section) {
             Some(Rule::Unsupported)
         } else {
             None
@@ -47,7 +46,7 @@ impl Reading {
     fn section_fault(&self, key: &[u8], section: Option<Section>) -> Option<Rule>
         requires { section ≡ section_of key.now }
         ensures fault { OfText self.now (λ before. result ≡ fault_of_line self.now.mode (section_line key.now) before) }
-        ensures dimension { result ≡ None → IsSome section → IsSome self.now.words.dimension }
+        ensures dimension { result ≡ None → IsSome section → IsSome self.now.keywords.dimension }
     {
         if self.is_short() {
             return Some(Rule::RowCount);
@@ -55,7 +54,7 @@ impl Reading {
         if self.is_repeated(section) {
             return Some(Rule::Repeated);
         }
-        match self.words.section_lacks(section) {
+        match self.keywords.section_lacks(section) {
             Some(rule) => Some(rule),
             None => self.unsupported_fault(key, section),
         }
@@ -63,21 +62,21 @@ impl Reading {
 
     /// Keeps no rows yet of a section.
     fn add_section(&mut self, alloc: Global, section: Section) -> Result<(), AllocError>
-        requires { IsSome self.old.words.dimension }
-        ensures same { (self.new.mode ≡ self.old.mode) × (self.new.words ≡ self.old.words) }
+        requires { IsSome self.old.keywords.dimension }
+        ensures same { (self.new.mode ≡ self.old.mode) × (self.new.keywords ≡ self.old.keywords) }
         ensures added { OnOk result ((s : Section) → get same_section self.new.sections s
-            ≡ opened_rows (Some section) (unwrap_or self.old.words.dimension 0) s (get same_section self.old.sections s)) }
+            ≡ opened_rows (Some section) (unwrap_or self.old.keywords.dimension 0) s (get same_section self.old.sections s)) }
     {
-        let rows = Rows::new(alloc, section, self.words.nodes())?;
+        let rows = Rows::new(alloc, section, self.keywords.nodes())?;
         put_rows(&mut self.sections, section, rows)
     }
 
     /// Keeps no rows yet of a section, where it is a known one.
     fn add_known(&mut self, alloc: Global, section: Option<Section>) -> Result<(), AllocError>
-        requires { IsSome section → IsSome self.old.words.dimension }
-        ensures same { (self.new.mode ≡ self.old.mode) × (self.new.words ≡ self.old.words) }
+        requires { IsSome section → IsSome self.old.keywords.dimension }
+        ensures same { (self.new.mode ≡ self.old.mode) × (self.new.keywords ≡ self.old.keywords) }
         ensures added { OnOk result ((s : Section) → get same_section self.new.sections s
-            ≡ opened_rows section (unwrap_or self.old.words.dimension 0) s (get same_section self.old.sections s)) }
+            ≡ opened_rows section (unwrap_or self.old.keywords.dimension 0) s (get same_section self.old.sections s)) }
     {
         match section {
             None => Ok(()),
@@ -93,11 +92,11 @@ impl Reading {
         section: Option<Section>,
     ) -> Result<(), AllocError>
         requires same { section ≡ section_of key.now }
-        requires dimension { IsSome section → IsSome self.old.words.dimension }
+        requires dimension { IsSome section → IsSome self.old.keywords.dimension }
         ensures { OnOk result (OfText self.old (λ before. repeats_section section before ≡ false → Stands self.old.mode (section_line key.now ∷ before) self.new)) }
     {
         self.add_known(alloc, section)?;
-        self.position = self.words.opened(section);
+        self.position = self.keywords.opened(section);
         Ok(())
     }
 

@@ -2,17 +2,17 @@
 ghost use Rattle.std.specs.Prelude.{◌≡◌, ◌≤◌, ◌*◌, ◌⊎◌, IfOk, OnOk, Some, is_some, option_map, true, if◌then◌else◌};
 ghost use Rattle.std.specs.Option.{ForSome};
 ghost use Rattle.indexmap.specs.IndexMap.{get};
-ghost use Rattle.vrplib_read.specs.Lines.{tokens};
-ghost use Rattle.vrplib_read.specs.RowFaults.{fault_of_row};
-ghost use Rattle.vrplib_read.specs.Sections.{Section, same_section};
-ghost use Rattle.vrplib_read.specs.Steps.{kind_of, with_row};
+ghost use Rattle.vrplib_model.specs.Lines.{tokens};
+ghost use Rattle.vrplib_model.specs.RowFaults.{fault_of_row};
+ghost use Rattle.vrplib_model.specs.declared.section.Section.{Section};
+ghost use Rattle.vrplib_model.specs.Sections.{same_section};
+ghost use Rattle.vrplib_read.specs.inside.Steps.{kind_of, with_row};
 
-use crate::rows::Rows;
-use crate::rule::Rule;
-use crate::section::Section;
 use indexmap::IndexMap;
 use std::alloc::AllocError;
 use vrp_num::Rounding;
+use vrplib_model::{Rule, Section};
+use vrplib_rows::Rows;
 
 /// Puts the rows of a section beside those of the others.
 pub(super) fn put_rows(

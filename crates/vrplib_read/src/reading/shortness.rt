@@ -2,16 +2,16 @@
 ghost use Rattle.std.specs.Prelude.{◌≡◌, flat_map, if◌then◌else◌, length, nat_lt, unwrap_or};
 ghost use Rattle.std.specs.Option.{option_copied, option_map_or};
 ghost use Rattle.indexmap.specs.IndexMap.{get};
-ghost use Rattle.vrplib_read.specs.Sections.{edge_weight_section, is_by_node, same_section};
-ghost use Rattle.vrplib_read.specs.Rows.{rows_of};
-ghost use Rattle.vrplib_read.specs.OfText.{OfText};
-ghost use Rattle.vrplib_read.specs.Values.{node_count};
-ghost use Rattle.vrplib_read.specs.WordFaults.{is_section_short, is_short};
+ghost use Rattle.vrplib_model.specs.declared.section.Section.TheVariants.{EdgeWeight as edge_weight_section};
+ghost use Rattle.vrplib_model.specs.Sections.{is_by_node, same_section};
+ghost use Rattle.vrplib_model.specs.Rows.{rows_of};
+ghost use Rattle.vrplib_read.specs.inside.OfText.{OfText};
+ghost use Rattle.vrplib_model.specs.Values.{node_count};
+ghost use Rattle.vrplib_model.specs.WordFaults.{is_section_short, is_short};
 
-use crate::position::Position;
 use crate::reading::Reading;
-use crate::rows::Rows;
-use crate::section::Section;
+use vrplib_model::{Position, Section};
+use vrplib_rows::Rows;
 
 /// Whether the section has exactly one row for each node.
 fn is_by_node(section: Section) -> bool
@@ -63,10 +63,10 @@ impl Reading {
 
     /// How many rows a section that isn't of legs must have at least.
     fn least_rows(&self, section: Section) -> usize
-        ensures { result ≡ (if is_by_node section then unwrap_or self.now.words.dimension 0 else 1) }
+        ensures { result ≡ (if is_by_node section then unwrap_or self.now.keywords.dimension 0 else 1) }
     {
         if is_by_node(section) {
-            self.words.nodes() as usize
+            self.keywords.nodes() as usize
         } else {
             1
         }
@@ -76,7 +76,7 @@ impl Reading {
     fn are_weights_short(&self) -> bool
         ensures { OfText self.now (λ before. result ≡ is_section_short self.now.mode edge_weight_section before) }
     {
-        (self.number_count(Section::EdgeWeight) as u64) < self.words.weight_count()
+        (self.number_count(Section::EdgeWeight) as u64) < self.keywords.weight_count()
     }
 
     /// Whether a section that isn't of legs has too few rows.

@@ -1,8 +1,8 @@
 use Rattle.std.proofs.Common.{◌≡◌, ◌+◌, ◌≤◌, drop, length}
 use Rattle.std.specs.Prelude.{bytes_eq}
-use Rattle.vrplib_read.specs.Rows.{nodes_of}
-use Rattle.vrplib_read.specs.Entries.{counted}
-use Rattle.vrplib_read.specs.OfText.{are_first}
+use Rattle.vrplib_model.specs.Rows.{nodes_of}
+use Rattle.vrplib_model.specs.Entries.{counted}
+use Rattle.vrplib_read.specs.inside.OfText.{are_first}
 use Rattle.vrplib_read.proofs.depots.count_in_order.Given as goal
 
 abbrev pub invariant-loop-number : goal.invariant-loop-number

@@ -1,5 +1,5 @@
 use Rattle.std.proofs.Common.{◌+◌, ◌∙◌, sym, arith}
-use Rattle.vrplib_read.specs.WholeText.{is_client_like}
+use Rattle.vrplib_model.specs.WholeText.{is_client_like}
 use Rattle.vrplib_read.proofs.RowLaws.{any_counted, none_counted}
 use Rattle.vrplib_read.proofs.depots.has_client_like.Goals as goal
 

@@ -1,6 +1,6 @@
 use Rattle.std.proofs.Common.{◌+◌, arith}
 use Rattle.std.proofs.lemmas.Grind.{common_steps}
-use Rattle.vrplib_read.specs.Meaning.{client}
+use Rattle.vrplib_model.specs.Meaning.{client}
 use Rattle.vrplib_read.proofs.RowLaws.{map_counted}
 use Rattle.vrplib_read.proofs.entries.clients.Goals as goal
 

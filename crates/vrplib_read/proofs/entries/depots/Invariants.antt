@@ -1,7 +1,7 @@
 use Rattle.std.proofs.Common.{◌≡◌, map}
-use Rattle.vrplib_read.specs.Entries.{counted}
-use Rattle.vrplib_read.specs.Meaning.{depot}
-use Rattle.vrplib_read.specs.OfText.{OfText}
+use Rattle.vrplib_model.specs.Entries.{counted}
+use Rattle.vrplib_model.specs.Meaning.{depot}
+use Rattle.vrplib_read.specs.inside.OfText.{OfText}
 use Rattle.vrplib_read.proofs.entries.depots.Given as goal
 
 abbrev pub invariant-loop-before : goal.invariant-loop-before

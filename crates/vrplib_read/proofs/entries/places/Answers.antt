@@ -2,7 +2,7 @@ use Rattle.std.proofs.Common.{◌≡◌, ◌+◌, ◌++◌, ◌∷◌, [], arith
 use Rattle.std.proofs.lemmas.Grind.{common_steps}
 use Rattle.std.proofs.lemmas.List.Elements.{All-same, All-push}
 use Rattle.problem_data.specs.Valid.{IsValidPlace}
-use Rattle.vrplib_read.specs.Entries.{coordinates}
+use Rattle.vrplib_model.specs.Entries.{coordinates}
 use Rattle.vrplib_read.proofs.RowLaws.{map_counted}
 use Rattle.vrplib_read.proofs.entries.places.Goals as goal
 

@@ -1,7 +1,7 @@
 use Rattle.std.proofs.Common.{◌≡◌, All, map, length}
 use Rattle.problem_data.specs.Valid.{IsValidPlace}
-use Rattle.vrplib_read.specs.Entries.{counted, coordinates}
-use Rattle.vrplib_read.specs.OfText.{OfText}
+use Rattle.vrplib_model.specs.Entries.{counted, coordinates}
+use Rattle.vrplib_read.specs.inside.OfText.{OfText}
 use Rattle.vrplib_read.proofs.entries.places.Given as goal
 
 abbrev pub invariant-loop-before : goal.invariant-loop-before

@@ -1,6 +1,6 @@
 use Rattle.std.proofs.Common.{arith}
 use Rattle.std.proofs.lemmas.Grind.{common_steps}
-use Rattle.vrplib_read.specs.OfText.{group_places}
+use Rattle.vrplib_read.specs.inside.OfText.{group_places}
 use Rattle.vrplib_read.proofs.GroupLaws.{group_row}
 use Rattle.vrplib_read.proofs.RowLaws.{map_taken}
 use Rattle.vrplib_read.proofs.groups.groups_in.Goals as goal

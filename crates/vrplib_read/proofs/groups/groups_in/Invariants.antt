@@ -1,5 +1,5 @@
 use Rattle.std.proofs.Common.{◌≡◌, map, take}
-use Rattle.vrplib_read.specs.OfText.{group_places}
+use Rattle.vrplib_read.specs.inside.OfText.{group_places}
 use Rattle.vrplib_read.proofs.groups.groups_in.Given as goal
 
 abbrev pub invariant-loop-k : goal.invariant-loop-k

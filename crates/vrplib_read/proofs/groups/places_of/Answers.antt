@@ -1,7 +1,7 @@
 use Rattle.std.proofs.Common.{◌∙◌, ap, map}
 use Rattle.std.specs.Prelude.{nat_abs}
 use Rattle.std.proofs.lemmas.List.{take_all}
-use Rattle.vrplib_read.specs.Entries.{place_of}
+use Rattle.vrplib_model.specs.Entries.{place_of}
 use Rattle.vrplib_read.proofs.GroupLaws.{places_are}
 use Rattle.vrplib_read.proofs.groups.places_of.Goals as goal
 

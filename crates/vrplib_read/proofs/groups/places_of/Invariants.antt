@@ -1,6 +1,6 @@
 use Rattle.std.proofs.Common.{◌≡◌, map, take}
 use Rattle.std.specs.Prelude.{nat_abs}
-use Rattle.vrplib_read.specs.Entries.{place_of}
+use Rattle.vrplib_model.specs.Entries.{place_of}
 use Rattle.vrplib_read.proofs.groups.places_of.Given as goal
 
 abbrev pub invariant-loop-node : goal.invariant-loop-node

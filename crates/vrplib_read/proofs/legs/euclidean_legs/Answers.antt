@@ -1,8 +1,9 @@
 use Rattle.std.proofs.Common.{◌*◌, ◌^◌, ◌≤◌, ◌∙◌, ap, length}
 use Rattle.std.proofs.lemmas.List.Elements.{All-same}
 use Rattle.std.proofs.lemmas.Result.{IfOk-weaker}
-use Rattle.vrplib_read.specs.OfText.{place_leg}
-use Rattle.vrplib_read.proofs.LegLaws.{rows_by, rows_length, euclidean_rows, places_within}
+use Rattle.vrplib_read.specs.inside.OfText.{place_leg}
+use Rattle.vrplib_model.proofs.LegTables.{rows_by, rows_length}
+use Rattle.vrplib_read.proofs.LegLaws.{euclidean_rows, places_within}
 use Rattle.vrplib_read.proofs.legs.euclidean_legs.Goals as goal
 
 pub returns-clause-legs : goal.returns-clause-legs

@@ -1,5 +1,5 @@
 use Rattle.std.proofs.Common.{◌≡◌, ◌++◌, map, take}
-use Rattle.vrplib_read.specs.OfText.{place_leg}
+use Rattle.vrplib_read.specs.inside.OfText.{place_leg}
 use Rattle.vrplib_read.proofs.legs.push_distances.Given as goal
 
 abbrev pub invariant-loop-to : goal.invariant-loop-to

@@ -1,6 +1,6 @@
 use Rattle.std.proofs.Common.{◌+◌, arith}
 use Rattle.std.proofs.lemmas.Grind.{common_steps}
-use Rattle.vrplib_read.specs.OfText.{weight_leg}
+use Rattle.vrplib_read.specs.inside.OfText.{weight_leg}
 use Rattle.vrplib_read.proofs.RowLaws.{map_counted}
 use Rattle.vrplib_read.proofs.legs.push_weights.Goals as goal
 

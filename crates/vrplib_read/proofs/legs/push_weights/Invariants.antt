@@ -1,6 +1,6 @@
 use Rattle.std.proofs.Common.{◌≡◌, ◌++◌, map}
-use Rattle.vrplib_read.specs.Entries.{counted}
-use Rattle.vrplib_read.specs.OfText.{weight_leg}
+use Rattle.vrplib_model.specs.Entries.{counted}
+use Rattle.vrplib_read.specs.inside.OfText.{weight_leg}
 use Rattle.vrplib_read.proofs.legs.push_weights.Given as goal
 
 abbrev pub invariant-loop-before : goal.invariant-loop-before

@@ -1,7 +1,7 @@
 use Rattle.std.proofs.Common.{◌+◌, map, arith}
 use Rattle.std.proofs.lemmas.Grind.{common_steps}
-use Rattle.vrplib_read.specs.Entries.{counted}
-use Rattle.vrplib_read.specs.OfText.{weight_leg}
+use Rattle.vrplib_model.specs.Entries.{counted}
+use Rattle.vrplib_read.specs.inside.OfText.{weight_leg}
 use Rattle.vrplib_read.proofs.RowLaws.{flat_counted}
 use Rattle.vrplib_read.proofs.legs.weight_legs.Goals as goal
 

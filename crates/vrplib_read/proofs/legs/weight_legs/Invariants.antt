@@ -1,7 +1,7 @@
 use Rattle.std.proofs.Common.{◌≡◌, map}
 use Rattle.std.specs.List.{flat_map}
-use Rattle.vrplib_read.specs.Entries.{counted}
-use Rattle.vrplib_read.specs.OfText.{weight_leg}
+use Rattle.vrplib_model.specs.Entries.{counted}
+use Rattle.vrplib_read.specs.inside.OfText.{weight_leg}
 use Rattle.vrplib_read.proofs.legs.weight_legs.Given as goal
 
 abbrev pub invariant-loop-before : goal.invariant-loop-before

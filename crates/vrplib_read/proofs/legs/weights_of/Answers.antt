@@ -1,6 +1,6 @@
 use Rattle.std.proofs.Common.{◌*◌, ◌^◌, flat_map}
 use Rattle.std.proofs.lemmas.List.Elements.{All-same}
-use Rattle.vrplib_read.specs.Kept.{IsBetween}
+use Rattle.vrplib_model.specs.inside.FaultlessRows.{IsBetween}
 use Rattle.vrplib_read.proofs.RowLaws.{weight_rows}
 use Rattle.vrplib_read.proofs.legs.weights_of.Goals as goal
 

@@ -4,7 +4,7 @@ use Rattle.std.specs.List.{list_any}
 use Rattle.std.specs.Option.{option_copied}
 use Rattle.std.proofs.lemmas.Result.{IfOk-weaker}
 use Rattle.problem_data.specs.declared.problem.Profile.{Profile}
-use Rattle.vrplib_read.specs.WholeText.{has_long_leg}
+use Rattle.vrplib_model.specs.WholeText.{has_long_leg}
 use Rattle.vrplib_read.proofs.ProfileLaws.{profiles_known, only_known, only_short}
 use Rattle.vrplib_read.proofs.profiles.profiles.Goals as goal
 

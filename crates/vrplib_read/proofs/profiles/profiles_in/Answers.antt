@@ -2,8 +2,8 @@ use Rattle.std.proofs.Common.{◌≡◌, true, false, arith}
 use Rattle.std.proofs.lemmas.Grind.{common_steps}
 use Rattle.std.proofs.lemmas.Option.{MatchOption-at_none, MatchOption-at_some}
 use Rattle.problem_data.specs.declared.problem.Profile.{Profile}
-use Rattle.vrplib_read.specs.OfText.{scaled_profile}
-use Rattle.vrplib_read.specs.WholeText.{has_long_leg}
+use Rattle.vrplib_read.specs.inside.OfText.{scaled_profile}
+use Rattle.vrplib_model.specs.WholeText.{has_long_leg}
 use Rattle.vrplib_read.proofs.RowLaws.{map_taken}
 use Rattle.vrplib_read.proofs.ProfileLaws.{any_got, none_taken, profile_row}
 use Rattle.vrplib_read.proofs.profiles.profiles_in.Goals as goal

@@ -1,7 +1,7 @@
 use Rattle.std.proofs.Common.{◌≡◌, false, map, take}
 use Rattle.std.specs.List.{list_any}
-use Rattle.vrplib_read.specs.OfText.{scaled_profile}
-use Rattle.vrplib_read.specs.WholeText.{has_long_leg}
+use Rattle.vrplib_read.specs.inside.OfText.{scaled_profile}
+use Rattle.vrplib_model.specs.WholeText.{has_long_leg}
 use Rattle.vrplib_read.proofs.profiles.profiles_in.Given as goal
 
 abbrev pub invariant-loop-k : goal.invariant-loop-k

@@ -1,8 +1,8 @@
 use Rattle.std.proofs.Common.{◌≡◌, ◌-◌, ◌∙◌, true, sym, ap}
 use Rattle.std.specs.List.{list_any}
 use Rattle.std.proofs.lemmas.Option.{MatchOption-at_none, MatchOption-at_some}
-use Rattle.vrplib_read.specs.Legs.{profiles}
-use Rattle.vrplib_read.specs.WholeText.{has_long_leg}
+use Rattle.vrplib_model.specs.Legs.{profiles}
+use Rattle.vrplib_model.specs.WholeText.{has_long_leg}
 use Rattle.vrplib_read.proofs.WholeLaws.{fault_missing, fault_depots, fault_parts, fault_legs, no_fault, depots_counted, clients_counted}
 use Rattle.vrplib_read.proofs.whole.whole_answer.Goals as goal
 

@@ -1,6 +1,6 @@
 use Rattle.std.proofs.Common.{◌∙◌}
 use Rattle.std.proofs.lemmas.Result.{IfOk-weaker}
-use Rattle.vrplib_read.specs.Lines.{tokens}
+use Rattle.vrplib_model.specs.Lines.{tokens}
 use Rattle.vrplib_read.proofs.ReadingLaws.{row_fault-found}
 use Rattle.vrplib_read.proofs.SectionMaps.{keyed-kept, some-kept, sized-kept}
 use Rattle.vrplib_read.proofs.reading.Reading.add_row.Goals as goal
@@ -15,4 +15,4 @@ invariant_of-self c = record {
 pub returns-clause-fault : goal.returns-clause-fault
 returns-clause-fault c = IfOk-weaker c.add_row.result _ _ (λ fault h before st.
     row_fault-found c.args.self.now.mode before c.args.section (tokens c.args.line.now) c.weight_count-weights.result fault _ (c.args.self.now.opened c.args.section c.requires)
-    (st.sections c.args.section) (c.weight_count-weights.ensures.value _ before st.words) h) c.add_row.ensures.fault
+    (st.sections c.args.section) (c.weight_count-weights.ensures.value _ before st.keywords) h) c.add_row.ensures.fault

@@ -1,5 +1,5 @@
 use Rattle.std.proofs.Common.{ap}
-use Rattle.vrplib_read.specs.Kept.{told}
+use Rattle.vrplib_rows.specs.Told.{told}
 use Rattle.vrplib_read.proofs.ReadingLaws.{empty-judged, end-judged}
 use Rattle.vrplib_read.proofs.reading.Reading.read_kind.Goals as goal
 

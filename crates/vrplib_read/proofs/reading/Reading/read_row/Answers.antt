@@ -1,5 +1,5 @@
 use Rattle.std.proofs.Common.{sym, ◌∙◌}
-use Rattle.vrplib_read.specs.Lines.{tokens}
+use Rattle.vrplib_model.specs.Lines.{tokens}
 use Rattle.vrplib_read.proofs.ReadingLaws.{row-passed, row-stray, stands-row-passed}
 use Rattle.vrplib_read.proofs.reading.Reading.read_row.Goals as goal
 

@@ -1,6 +1,6 @@
 use Rattle.std.proofs.Common.{Ok, sym, ◌∙◌, ap}
-use Rattle.vrplib_read.specs.Lines.{tokens}
-use Rattle.vrplib_read.specs.Rows.{within}
+use Rattle.vrplib_model.specs.Lines.{tokens}
+use Rattle.vrplib_model.specs.declared.position.Position.TheVariants.{Within as within}
 use Rattle.vrplib_read.proofs.ReadingLaws.{after_row-same, row-within, stands-row-within}
 use Rattle.vrplib_read.proofs.reading.Reading.read_row_within.Goals as goal
 

@@ -1,7 +1,7 @@
 use Rattle.std.proofs.Common.{◌∙◌}
 use Rattle.vrplib_read.proofs.SectionKeys.{same_test, same_lookup}
-use Rattle.vrplib_read.specs.contracts.section.SectionPartialEq.TheImpl.{eq-value}
-use Rattle.vrplib_read.specs.Sections.{same_section}
+use Rattle.vrplib_model.specs.contracts.section.SectionPartialEq.TheImpl.{eq-value}
+use Rattle.vrplib_model.specs.Sections.{same_section}
 use Rattle.vrplib_read.proofs.reading.Reading.rows_of.Goals as goal
 
 pub returns : goal.returns

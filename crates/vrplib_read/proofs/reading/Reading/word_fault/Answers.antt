@@ -1,5 +1,5 @@
 use Rattle.std.proofs.Common.{sym, ◌∙◌, inl, inr}
-use Rattle.vrplib_read.specs.Rows.{passed_over, outside, within}
+use Rattle.vrplib_model.specs.declared.position.Position.TheVariants.{PassedOver as passed_over, Outside as outside, Within as within}
 use Rattle.vrplib_read.proofs.ReadingLaws.{word-checks, stands-word}
 use Rattle.vrplib_read.proofs.reading.Reading.word_fault.Goals as goal
 

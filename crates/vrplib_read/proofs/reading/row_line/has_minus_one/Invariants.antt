@@ -1,7 +1,7 @@
 use Rattle.std.proofs.Common.{◌≡◌, length}
 use Rattle.std.specs.List.{list_any}
-use Rattle.vrplib_read.specs.Lines.{tokens}
-use Rattle.vrplib_read.specs.Numbers.{is_minus_one_token}
+use Rattle.vrplib_model.specs.Lines.{tokens}
+use Rattle.vrplib_model.specs.Numbers.{is_minus_one_token}
 use Rattle.vrplib_read.proofs.reading.row_line.has_minus_one.Given as goal
 
 abbrev pub invariant-loop-token : goal.invariant-loop-token

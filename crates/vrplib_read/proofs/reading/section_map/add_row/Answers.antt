@@ -2,9 +2,10 @@ use Rattle.std.proofs.Common.{◌≡◌, Some, sym, ◌∙◌, ap, refl, subst}
 use Rattle.std.specs.Prelude.{if◌then◌else◌, is_some}
 use Rattle.std.specs.Map.{lookup}
 use Rattle.std.proofs.lemmas.Result.{IfOk-weaker}
-use Rattle.vrplib_read.specs.RowFaults.{fault_of_row}
-use Rattle.vrplib_read.specs.Lines.{tokens}
-use Rattle.vrplib_read.specs.Sections.{Section, same_section}
+use Rattle.vrplib_model.specs.RowFaults.{fault_of_row}
+use Rattle.vrplib_model.specs.Lines.{tokens}
+use Rattle.vrplib_model.specs.declared.section.Section.{Section}
+use Rattle.vrplib_model.specs.Sections.{same_section}
 use Rattle.vrplib_read.proofs.SectionMaps.{lookup-same, lookup-updated, kinds-kept}
 use Rattle.vrplib_read.proofs.reading.section_map.add_row.Goals as goal
 

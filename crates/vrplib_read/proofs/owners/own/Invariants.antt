@@ -1,6 +1,0 @@
-use Rattle.std.proofs.Common.{take}
-use Rattle.vrplib_read.proofs.RowOwners.{AreOwnedBy}
-use Rattle.vrplib_read.proofs.owners.own.Given as goal
-
-abbrev pub invariant-loop-node : goal.invariant-loop-node
-invariant-loop-node l = AreOwnedBy l.number l.initial.owners l.owners (take l.node-index l.named)

@@ -1,6 +1,0 @@
-use Rattle.std.proofs.Common.{◌≡◌, ◌-◌, take}
-use Rattle.vrplib_read.specs.Rows.{vehicle_count}
-use Rattle.vrplib_read.proofs.rows.Rows.without_vehicles.Given as goal
-
-abbrev pub invariant-loop-k : goal.invariant-loop-k
-invariant-loop-k l = l.left ≡ l.most - vehicle_count (take l.k l.self.rows)

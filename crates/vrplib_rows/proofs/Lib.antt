@@ -1,0 +1,11 @@
+pub mod CutRows
+pub mod KeywordLaws
+pub mod LineLaws
+pub mod LongRowLaws
+pub mod Repeats
+pub mod RowNumbers
+pub mod RowOwners
+pub mod RowStages
+pub mod RowTests
+pub mod TokenLaws
+pub mod TokenWalks

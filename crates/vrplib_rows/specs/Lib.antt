@@ -1,0 +1,12 @@
+pub use Rattle.vrplib_model.specs.Checks
+pub use Rattle.vrplib_model.specs.LineKinds
+pub use Rattle.vrplib_model.specs.Lines
+pub use Rattle.vrplib_model.specs.Numbers
+pub use Rattle.vrplib_model.specs.RowFaults
+pub use Rattle.vrplib_model.specs.Rows
+pub use Rattle.vrplib_model.specs.Values
+pub use Rattle.vrplib_model.specs.WordFaults
+pub mod KeptRows
+pub mod KnownKeywords
+pub mod Told
+pub mod inside
