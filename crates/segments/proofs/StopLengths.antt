@@ -10,7 +10,7 @@ append_nothing : (xs : List Stop) → xs ++ [] ≡ xs
 append_nothing [] = refl
 append_nothing (x ∷ xs) = ap (λ (ys : List Stop). x ∷ ys) (append_nothing xs)
 
-length_of-append : (leg : ℕ → ℕ → ℕ) (xs ys : List Stop) → length_of leg (xs ++ ys) ≡ length_of leg xs + length_of leg ys + joint leg xs ys
+pub length_of-append : (leg : ℕ → ℕ → ℕ) (xs ys : List Stop) → length_of leg (xs ++ ys) ≡ length_of leg xs + length_of leg ys + joint leg xs ys
 length_of-append leg [] ys = omega arith
 length_of-append leg (x ∷ xs) [] = ap (length_of leg) (append_nothing (x ∷ xs)) ∙ omega arith
 length_of-append leg (x ∷ []) (y ∷ ys) = omega arith

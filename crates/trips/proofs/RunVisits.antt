@@ -19,7 +19,7 @@ use Rattle.trips.specs.Standing.{StandsForReload, StandsForRun}
 use Rattle.trips.proofs.Rests.{valid_profile_at}
 
 -- no way is driven from a depot to itself
-depot-rests : (p : Problem) (t : VehicleType) (depot : ℕ) → IsValid p → IsValidType p t → IsTrue (is_depot_place p depot) → leg_distance p t.profile depot depot ≡ 0
+pub depot-rests : (p : Problem) (t : VehicleType) (depot : ℕ) → IsValid p → IsValidType p t → IsTrue (is_depot_place p depot) → leg_distance p t.profile depot depot ≡ 0
 depot-rests p t depot valid allowed named =
     let inside : depot < depot_count p = grind (arith, nat_tests) in
     (valid_profile_at p t.profile valid allowed.profile).distances.at_rest depot (omega arith)

@@ -1,11 +1,12 @@
 //! What a run of a vehicle's stops adds up to: its trips, its distance and its prizes.
-ghost use Rattle.std.specs.Prelude.{◌≡◌, ◌<◌, IsTrue};
+ghost use Rattle.std.specs.Prelude.{◌≡◌, ◌<◌, IsTrue, pos};
 ghost use Rattle.problem_data.specs.Places.{is_client_place, is_depot_place, place_count};
 ghost use Rattle.problem_data.specs.Reads.{RoseAtMost};
 ghost use Rattle.problem_data.specs.Valid.{IsValidType};
 ghost use Rattle.routing_model.specs.Lawful.{names_place};
 ghost use Rattle.routing_model.specs.Stops.{met};
 ghost use Rattle.segments.specs.Distance.{no_distance};
+ghost use Rattle.trips.specs.Merging.{merged_trips};
 ghost use Rattle.trips.specs.RunSegments.{CanMergeRunSegments, FitTogether, HoldsRun, HoldsVisit, JoinsAt, JoinsRunSegments, end_alone, start_alone};
 
 use crate::trip_segment::TripSegment;
@@ -83,7 +84,8 @@ impl RunSegment {
     /// Condition: what they add up to is at most 10^16.
     pub fn merge(self, right: RunSegment, leg: Leg, capacity: u64) -> RunSegment
         requires { CanMergeRunSegments self right leg.distance leg.duration capacity }
-        ensures { JoinsRunSegments self right leg.distance leg.duration capacity result }
+        ensures joins { JoinsRunSegments self right leg.distance leg.duration capacity result }
+        ensures trips { result.trips ≡ merged_trips self.trips right.trips (pos leg.duration) capacity }
     {
         RunSegment {
             trips: self.trips.merge(right.trips, leg.duration as i64, capacity),

@@ -9,4 +9,4 @@ merge-requires c =
 pub returns-clause-joins : goal.returns-clause-joins
 returns-clause-joins c =
     joined-at c.args.given.now c.args.vehicle_type.now c.args.self c.args.last c.args.next c.args.first c.merge.result
-    (rw (c.leg-leg.ensures.distance, c.leg-leg.ensures.duration) at c.merge.ensures)
+    (rw (c.leg-leg.ensures.distance, c.leg-leg.ensures.duration) at c.merge.ensures.joins)

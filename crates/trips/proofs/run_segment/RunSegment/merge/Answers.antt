@@ -9,5 +9,8 @@ returns c =
     let fits_distance : Fits w32 c.args.leg.distance = search rules in
     let duration : to_z w64 c.args.leg.duration ≡ pos c.args.leg.duration = omega (arith, ints) in
     let distance : to_z w64 c.args.leg.distance ≡ pos c.args.leg.distance = omega (arith, ints) in
-    run_segments-joined c.args.self c.args.right (record { trips = c.merge.result; distance = c.merge-2.result; prizes = c.args.self.prizes + c.args.right.prizes })
-    c.args.leg.distance c.args.leg.duration c.args.capacity c.merge.ensures.sound (rw duration at c.merge.ensures.joins) c.merge-2.ensures.sound (rw distance at c.merge-2.ensures.joins) refl
+    record {
+      joins = run_segments-joined c.args.self c.args.right (record { trips = c.merge.result; distance = c.merge-2.result; prizes = c.args.self.prizes + c.args.right.prizes })
+          c.args.leg.distance c.args.leg.duration c.args.capacity c.merge.ensures.sound (rw duration at c.merge.ensures.joins) c.merge-2.ensures.sound (rw distance at c.merge-2.ensures.joins) refl;
+      trips = rw duration at c.merge.ensures.value;
+    }
