@@ -1,3 +1,4 @@
-pub mod Caching
+pub mod Inside
+pub mod Marks
 pub mod Routes
 pub mod Views

@@ -10,7 +10,7 @@ pub struct Drive {
 }
 
 /// What a drive of a run of stops takes, from every start.
-#[derive(Clone, Copy, Debug, PartialEq, Eq)]
+#[derive(Clone, Copy, Debug, Default, PartialEq, Eq)]
 pub struct DurationSegment {
     /// The duration from a start between `earliest` and `latest`: no start takes less. From 0 to 10^16.
     pub duration: i64,

@@ -41,7 +41,7 @@ run_segments-joined left right both distance duration capacity sound joins sound
     }
 
 -- the length of a run in range
-length-run_in_range : (p : Problem) (t : VehicleType) (run : Run) → IsInRange p t run → length_of (leg_distance p t.profile) (run_stops p t run) ≤ most_stops * largest_leg
+pub length-run_in_range : (p : Problem) (t : VehicleType) (run : Run) → IsInRange p t run → length_of (leg_distance p t.profile) (run_stops p t run) ≤ most_stops * largest_leg
 length-run_in_range p t run h =
     let a = length-bound (leg_distance p t.profile) (run_stops p t run) (λ from to. distance-short p t from to h.is_run.valid h.is_run.allowed) in
     omega (arith, h.few_stops)

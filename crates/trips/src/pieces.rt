@@ -17,7 +17,7 @@ pub struct Piece {
 }
 
 /// Whole trips, with their releases applied.
-#[derive(Clone, Copy, Debug, PartialEq, Eq)]
+#[derive(Clone, Copy, Debug, Default, PartialEq, Eq)]
 pub struct Middle {
     /// The drive of their stops.
     pub duration: DurationSegment,
