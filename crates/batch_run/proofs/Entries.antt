@@ -5,8 +5,8 @@ use Rattle.std.specs.Str.{bytes_eq}
 use Rattle.std.proofs.lemmas.Iterator.Adapters.{position_from-zero}
 use Rattle.std.proofs.lemmas.List.Quantifiers.{position-Some}
 use Rattle.std.proofs.lemmas.Slice.Eq.{bytes_eq-Decides}
-use Rattle.batch_run.specs.Holding.{Holding, held_outside, held_among}
-use Rattle.batch_run.specs.Outside.{IsStored}
+use Rattle.outside_model.specs.Holding.{Holding, held_outside, held_among}
+use Rattle.outside_model.specs.Files.{IsStored}
 
 -- a name with its bytes
 abbrev pub Entry : Type 0

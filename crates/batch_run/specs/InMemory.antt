@@ -1,7 +1,7 @@
 -- Files and sinks in memory.
 use Rattle.std.specs.Prelude.{◌≡◌, ℕ, ◌⊎◌, Bool, true, false, List, [], ◌∷◌, None}
 use Rattle.batch_run.specs.declared.files.FileFault.{FileFault}
-use Rattle.batch_run.specs.Holding.{Holding, held_at}
+use Rattle.outside_model.specs.Holding.{Holding, held_at}
 
 -- what names hold, any other name being an empty file
 abbrev pub open_holding : List (List ℕ × List ℕ) → Holding

@@ -1,3 +1,6 @@
-pub mod Holding
+pub use Rattle.outside_model.specs.Files
+pub use Rattle.outside_model.specs.Holding
+pub use Rattle.outside_model.specs.Sinks
+pub mod Faults
 pub mod InMemory
-pub mod Outside
+pub mod Loads

@@ -1,7 +1,8 @@
 //! Named files.
 ghost use Rattle.std.specs.Prelude.{◌≡◌, [], ◌∷◌, ◌++◌, List, Option, IfOk, OnOk, OnErr};
-ghost use Rattle.batch_run.specs.Holding.{Holding};
-ghost use Rattle.batch_run.specs.Outside.{IsLoaded, IsTooLong, KeepsOthers, Stores, fault, faults_of_load, faults_of_store};
+ghost use Rattle.outside_model.specs.Holding.{Holding};
+ghost use Rattle.outside_model.specs.Files.{IsLoaded, IsTooLong, KeepsOthers, Stores};
+ghost use Rattle.batch_run.specs.Faults.{fault, faults_of_load, faults_of_store};
 
 use crate::named_bytes::copied;
 use problem_data::{NoMemory, Text};

@@ -79,10 +79,15 @@ impl<S: rt::Files> Files for Folder<S> {
     }
 
     fn store(&mut self, name: &str, bytes: &[u8]) -> Result<(), StoreFault> {
-        if fs::write(&self.system, name, bytes).is_err() {
-            note_fault(&mut self.faults, true, name)?;
-            return Err(StoreFault::Failed);
+        match fs::write(&self.system, name, bytes) {
+            Ok(()) => Ok(()),
+            Err(error) => {
+                if error.kind() == ErrorKind::OutOfMemory {
+                    return Err(StoreFault::NoMemory);
+                }
+                note_fault(&mut self.faults, true, name)?;
+                Err(StoreFault::Failed)
+            }
         }
-        Ok(())
     }
 }

@@ -18,7 +18,4 @@ pub use memory_sink::MemorySink;
 pub use nowhere::Nowhere;
 pub use plain_files::PlainFiles;
 pub use sink::{Failed, Sink};
-pub use standard::{StandardError, StandardOutput};
-
-#[cfg(test)]
-mod tests;
+pub use standard::{StandardError, StandardOutput, put_counted};

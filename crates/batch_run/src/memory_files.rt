@@ -1,9 +1,10 @@
 //! Files in memory that fail by a list.
 ghost use Rattle.std.specs.Prelude.{◌≡◌, ◌⊎◌, ◌++◌, true, drop, [], Some, OnOk, OnErr, IfOk};
 ghost use Rattle.std.specs.Option.{option_copied};
-ghost use Rattle.batch_run.specs.Holding.{held_at};
+ghost use Rattle.outside_model.specs.Holding.{held_at};
 ghost use Rattle.batch_run.specs.InMemory.{LoadFails, holding_of, is_next_failing};
-ghost use Rattle.batch_run.specs.Outside.{IsLoaded, IsStored, IsTooLong, KeepsOthers, Stores, faults_of_load, faults_of_store};
+ghost use Rattle.outside_model.specs.Files.{IsLoaded, IsStored, IsTooLong, KeepsOthers, Stores};
+ghost use Rattle.batch_run.specs.Faults.{faults_of_load, faults_of_store};
 
 use crate::files::{FileFault, Files, LoadFault, StoreFault, note_fault};
 use crate::named_bytes::{NamedBytes, copied_within};

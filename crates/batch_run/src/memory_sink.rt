@@ -1,6 +1,6 @@
 //! A sink in memory.
 ghost use Rattle.std.specs.Prelude.{◌≡◌, ◌↔◌, ◌+◌, ◌-◌, ◌^◌, ◌<◌, ◌≤◌, [], ◌++◌, length, take, Some, IsOk, IfOk, OnOk, OnErr};
-ghost use Rattle.batch_run.specs.Outside.{Appended, AppendedPart, Rose};
+ghost use Rattle.outside_model.specs.Sinks.{Appended, AppendedPart, Rose};
 
 use crate::sink::{Failed, Sink, raise};
 use problem_data::NoMemory;

@@ -3,8 +3,9 @@ ghost use Rattle.std.specs.Prelude.{◌≡◌, ◌≢◌, ℕ, ◌<◌, ◌≤�
 ghost use Rattle.std.specs.List.{position};
 ghost use Rattle.std.specs.Option.{option_copied};
 ghost use Rattle.std.specs.Str.{bytes_eq};
-ghost use Rattle.batch_run.specs.Holding.{held_among};
-ghost use Rattle.batch_run.specs.Outside.{IsStored, faults_of_load};
+ghost use Rattle.outside_model.specs.Holding.{held_among};
+ghost use Rattle.outside_model.specs.Files.{IsStored};
+ghost use Rattle.batch_run.specs.Faults.{faults_of_load};
 ghost use Rattle.batch_run.specs.InMemory.{open_holding, closed_holding};
 
 use crate::files::LoadFault;

@@ -1,7 +1,7 @@
 //! Files in memory that don't fail.
 ghost use Rattle.std.specs.Prelude.{◌≡◌, ◌≢◌, [], Some, OnOk, OnErr, IfOk};
 ghost use Rattle.batch_run.specs.InMemory.{open_holding};
-ghost use Rattle.batch_run.specs.Outside.{IsLoaded, IsStored, IsTooLong, Stores};
+ghost use Rattle.outside_model.specs.Files.{IsLoaded, IsStored, IsTooLong, Stores};
 
 use crate::files::{Files, LoadFault, StoreFault};
 use crate::named_bytes::{NamedBytes, copied_within};

@@ -1,6 +1,6 @@
 //! Sinks for bytes.
 ghost use Rattle.std.specs.Prelude.{◌≡◌, ◌+◌, ◌-◌, ◌^◌, ◌<◌, ◌≤◌, ℕ, List, Option, OnOk, OnErr};
-ghost use Rattle.batch_run.specs.Outside.{Appended, AppendedPart, Rose};
+ghost use Rattle.outside_model.specs.Sinks.{Appended, AppendedPart, Rose};
 
 /// A write failed.
 #[derive(Clone, Copy, Debug, PartialEq, Eq)]

@@ -1,13 +1,13 @@
 //! Standard output and standard error.
 ghost use Rattle.std.specs.Prelude.{◌≡◌, ◌≤◌, take, length, None, IfOk, OnOk, OnErr};
 ghost use Rattle.std.specs.Io.KnownBytes.{Appends};
-ghost use Rattle.batch_run.specs.Outside.{Rose};
+ghost use Rattle.outside_model.specs.Sinks.{Rose};
 
 use crate::sink::{Failed, Sink, raise};
 use std::io::{ErrorKind, Stderr, Stdout, Write};
 use std::marker::Model;
 
-/// How often the writes of one piece may be interrupted.
+/// How many interruptions the writes of some bytes outlast, at least. Each write that takes more than one byte makes room for more.
 const INTERRUPTIONS: usize = 64;
 
 /// One write of a piece that isn't empty: how many bytes were taken, none where it was interrupted.
@@ -44,8 +44,8 @@ fn write_all<W: Write>(stream: &mut W, bytes: &[u8]) -> Result<(), Failed>
     stream.flush().map_err(|_| Failed)
 }
 
-/// Writes all the bytes and counts a failure.
-fn put_counted<W: Write>(stream: &mut W, faults: &mut u64, bytes: &[u8]) -> Result<(), Failed>
+/// Writes all the bytes to a stream, by as many writes as it takes, and counts a failure.
+pub fn put_counted<W: Write>(stream: &mut W, faults: &mut u64, bytes: &[u8]) -> Result<(), Failed>
     ensures whole { OnOk result (Appends (W.contents stream.old) (W.contents stream.new) bytes.now) }
     ensures cause { OnErr result (Rose faults.old faults.new) }
     ensures later { faults.old ≤ faults.new }
@@ -123,62 +123,5 @@ impl Sink for StandardError {
 
     fn put(&mut self, bytes: &[u8]) -> Result<(), Failed> {
         put_counted(&mut self.stream, &mut self.faults, bytes)
-    }
-}
-
-#[cfg(test)]
-mod tests {
-    use super::*;
-    use std::io;
-    use std::test::Fail;
-
-    /// Takes at most two bytes at a time, is interrupted at every second write, and takes nothing once it has five.
-    #[derive(Drop)]
-    struct Halting {
-        taken: Vec<u8>,
-        writes: u32,
-    }
-
-    impl Write for Halting {
-        fn write(&mut self, piece: &[u8]) -> io::Result<usize> {
-            self.writes = self.writes.wrapping_add(1);
-            if self.writes % 2 == 0 {
-                return Err(io::Error::from(ErrorKind::Interrupted));
-            }
-            let room = 5usize.saturating_sub(self.taken.len());
-            let count = piece.len().min(2).min(room);
-            self.taken.extend_from_slice(&piece[..count])?;
-            Ok(count)
-        }
-
-        fn flush(&mut self) -> io::Result<()> {
-            Ok(())
-        }
-    }
-
-    #[test]
-    fn streams_are_written_until_all_is_taken(rt: HostRuntime) -> Result<(), Fail> {
-        let mut halting = Halting {
-            taken: Vec::new(rt.alloc()),
-            writes: 0,
-        };
-        let mut faults = 0;
-        assert_eq!(rt; put_counted(&mut halting, &mut faults, b"abc"), Ok(()));
-        assert_eq!(rt; faults, 0);
-        assert_eq!(rt;
-            put_counted(&mut halting, &mut faults, b"defg"),
-            Err(Failed)
-        );
-        assert_eq!(rt; faults, 1);
-        assert_eq!(rt; halting.taken.as_slice(), b"abcde".as_slice());
-        assert_eq!(rt;
-            StandardOutput::new(rt.stdout()).put(b"to standard output\n"),
-            Ok(())
-        );
-        assert_eq!(rt;
-            StandardError::new(rt.stderr()).put(b"to standard error\n"),
-            Ok(())
-        );
-        Ok(())
     }
 }

@@ -1,0 +1,2 @@
+mod CommandExamples
+mod WordExamples

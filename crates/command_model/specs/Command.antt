@@ -2,15 +2,10 @@
 use Rattle.std.specs.Prelude.{ℕ, if◌then◌else◌, List, [], ◌∷◌, ◌++◌, length, flat_map, count_by, is_some}
 use Rattle.std.specs.Option.{option_map_or}
 use Rattle.std.specs.List.{list_any}
+use Rattle.outside_model.specs.Delivery.{Effects}
 use Rattle.vrp_texts.specs.Tables.{header, count_line}
 use Rattle.vrp_texts.specs.FaultLines.{wrong_words}
-use Rattle.command_model.specs.Outcomes.{Instance, text_of, row_of, fault_line, is_faulty}
-
--- the text for the output, the text for errors, and the exit status
-pub record Effects : Type 0 where
-  pub out : List ℕ
-  pub err : List ℕ
-  pub status : ℕ
+use Rattle.command_model.specs.Outcomes.{Instance, program, text_of, row_of, fault_line, is_faulty}
 
 -- the plan of the one instance, and an empty line
 abbrev pub only_text : List Instance → List ℕ
@@ -25,7 +20,7 @@ output instances =
 
 -- the effects where the words are wrong
 abbrev pub refused_words : Effects
-refused_words = record { out = []; err = wrong_words; status = 2 }
+refused_words = record { out = []; err = wrong_words program; status = 2 }
 
 -- what comes of these instances
 abbrev pub effects_of : List Instance → Effects

@@ -1,3 +1,5 @@
+pub use Rattle.outside_model.specs.Delivery
+pub use Rattle.outside_model.specs.Files
 pub use Rattle.problem_data.specs.Places
 pub use Rattle.routing_model.specs.Best
 pub use Rattle.random_model.specs.RandomSolution

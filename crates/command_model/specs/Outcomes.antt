@@ -1,5 +1,6 @@
 -- What comes of an instance: what the files answered of it, what it is read as, and what the search finds.
-use Rattle.std.specs.Prelude.{ℕ, Bool, true, false, ⊤, List, [], Option, Some, None, option_map, Result, Ok, Err, pos}
+use Rattle.std.specs.Prelude.{ℕ, Bool, true, false, ⊤, List, [], Option, Some, None, option_map, Result, Ok, Err, pos, codes}
+use Rattle.outside_model.specs.Files.{Load, failed, too_long, loaded}
 use Rattle.problem_data.specs.declared.problem.Problem.{Problem}
 use Rattle.vrp_num.specs.declared.rounding.Rounding.TheVariants.{Round}
 use Rattle.vrplib_read.specs.declared.refusal.Refusal.{Refusal}
@@ -9,11 +10,9 @@ use Rattle.vrp_texts.specs.Printed.{solution_text}
 use Rattle.vrp_texts.specs.Tables.{found_row, none_row, refused_row}
 use Rattle.vrp_texts.specs.FaultLines.{unread_line, long_line, refused_line}
 
--- what the files answered a load
-pub data Load : Type 0 where
-  failed : Load
-  too_long : Load
-  loaded : List ℕ → Load
+-- the name of the program, with which the lines of its faults begin
+abbrev pub program : List ℕ
+program = codes "pyvrp"
 
 -- the search, as a function of a problem
 abbrev pub Search : Type 0
@@ -67,9 +66,9 @@ row_of (name, _) = refused_row name
 
 -- the line of an instance's fault, where it has one
 abbrev pub fault_line : Instance → List ℕ
-fault_line (name, unreadable) = unread_line name
-fault_line (name, oversized) = long_line name
-fault_line (name, refused refusal) = refused_line name refusal
+fault_line (name, unreadable) = unread_line program name
+fault_line (name, oversized) = long_line program name
+fault_line (name, refused refusal) = refused_line program name refusal
 fault_line (name, solved problem found) = []
 
 -- the instance wasn't searched

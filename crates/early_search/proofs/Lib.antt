@@ -10,7 +10,6 @@ pub mod GroupMarks
 pub mod MadeMoves
 pub mod Nearness
 pub mod RandomPlans
-pub mod SampleProblem
 pub mod ShortLists
 pub mod TriedMoves
 pub mod UnusedVehicles

@@ -9,13 +9,14 @@ use Rattle.std.proofs.lemmas.List.Sums.{AllPass-from_list_all, get_or-le-sum_by,
 use Rattle.problem_data.specs.declared.problem.Problem.{Problem}
 use Rattle.problem_data.specs.declared.visit.Visit.{Visit}
 use Rattle.problem_data.specs.declared.visit.Visit.TheVariants.{Client, Reload}
+use Rattle.problem_data.specs.Limits.{most_places, most_visits}
 use Rattle.problem_data.specs.Places.{client_places, is_client_place, place_count}
 use Rattle.problem_data.specs.Valid.{IsValid}
 use Rattle.routing_model.specs.Lawful.{names_place, visits_at_most_once, IsLawful}
 use Rattle.routing_model.specs.Routes.{Routes, is_visit_of, visit_count}
 use Rattle.routing_model.specs.Tidy.{is_tidy}
 use Rattle.routing_model.proofs.LawfulFacts.{lawful-facts}
-use Rattle.penalty_cost.specs.Totals.{IsDrivablePlan}
+use Rattle.penalty_cost.specs.Plans.{IsDrivablePlan}
 use Rattle.early_search.specs.ClientPlans.{IsClientPlan}
 use Rattle.early_search.proofs.ClientLists.{and-first, and-second, are_clients}
 use Rattle.early_search.proofs.ClientMoves.{lawful-clients}
@@ -84,16 +85,16 @@ lists-short p routes once clients i d inside =
 pub drivable : (p : Problem) (routes : Routes) → IsValid p → IsClientPlan p routes → IsDrivablePlan p routes
 drivable p routes valid plan =
     let facts : IsLawful p routes = lawful-facts p routes plan.lawful in
-    let few : place_count p ≤ 2048 = valid.place_limit in
-    let short : All (λ (visits : List Visit). length visits ≤ 2079) routes =
-    All-weaker (λ visits. length visits ≤ length p.clients) (λ visits. length visits ≤ 2079) (λ visits h. omega arith) routes
+    let few : place_count p ≤ most_places = valid.place_limit in
+    let short : All (λ (visits : List Visit). length visits ≤ most_visits) routes =
+    All-weaker (λ visits. length visits ≤ length p.clients) (λ visits. length visits ≤ most_visits) (λ visits h. omega arith) routes
     (lists-short p routes facts.visits_at_most_once (lawful-clients p routes plan)) in
     record {
       one_list_each = facts.one_list_each;
-      drivable = λ i d inside. record {
+      listed = λ i d inside. record {
         named = AllPass-from_list_all (list_all (names_place p)) routes facts.names_places i d inside;
         tidy = AllPass-from_list_all is_tidy routes facts.tidy i d inside;
-        short = short i d inside;
+        few = short i d inside;
       };
       at_most_once = facts.visits_at_most_once;
     }

@@ -6,9 +6,6 @@ ghost use Rattle.search_model.specs.Candidates.{candidates, neighbour_candidates
 ghost use Rattle.search_model.specs.Neighbours.{near_list};
 ghost use Rattle.search_model.specs.Search.{of_kinds};
 
-#[cfg(test)]
-mod tests;
-
 use crate::near_clients::near_clients;
 use problem_data::{NoMemory, ProblemData, Reads, Steps};
 use search_model::{Candidate, Kind, Target};
@@ -90,9 +87,9 @@ pub fn client_candidates(
     Ok(moves)
 }
 
-/// The candidates of a pass of the early search, for an order of the clients: each client goes to
-/// each of its 40 neighbours and to an unused vehicle of each type. Refused only where memory runs
-/// out.
+/// The candidates of a pass of the early search, for an order of the clients: each client goes behind each of its neighbours, of
+/// which it has 40 at most, to the front of the list that the neighbour begins, and to an unused vehicle of each type. Refused only
+/// where memory runs out.
 pub fn early_candidates(
     alloc: Global,
     given: &ProblemData,

@@ -13,13 +13,10 @@ ghost use Rattle.search_model.specs.Moves.{moved};
 ghost use Rattle.search_model.specs.Targets.{put_before, put_behind};
 ghost use Rattle.early_search.specs.ClientMoves.{AreOf, IsClientMove, IsMove, IsPut, IsTargetOf, changed, taken_out, two_changes};
 ghost use Rattle.early_search.specs.ClientPlans.{IsClientPlan};
-ghost use Rattle.penalty_cost.specs.Totals.{IsWeighed};
-
-#[cfg(test)]
-mod tests;
+ghost use Rattle.penalty_cost.specs.Plans.{IsWeighed};
 
 use crate::plan_cost::cost_of_lists;
-use problem_data::{NoMemory, ProblemData, Reads, Steps, Visit, VisitList};
+use problem_data::{NoMemory, ProblemData, Reads, Steps, Visit, VisitList, is_used};
 use routing_model::Weights;
 use search_model::{Candidate, Target};
 use std::alloc::Global;
@@ -43,7 +40,7 @@ fn has_client(visits: &[Visit], client: u32) -> bool
 }
 
 /// Whether the list begins with the client.
-fn begins_with(visits: &[Visit], client: u32) -> bool
+pub fn begins_with(visits: &[Visit], client: u32) -> bool
     ensures { result ≡ begins_with client visits.now }
 {
     match visits {
@@ -53,20 +50,11 @@ fn begins_with(visits: &[Visit], client: u32) -> bool
 }
 
 /// The vehicle that visits the client, if any.
-fn vehicle_of(plan: &[VisitList], client: u32) -> Option<usize>
+pub fn vehicle_of(plan: &[VisitList], client: u32) -> Option<usize>
     ensures { result ≡ position (has_client client) plan.now }
 {
     plan.iter()
         .position(|visits| has_client(visits.items(), client))
-}
-
-/// Whether the list visits a client.
-fn is_used(visits: &[Visit]) -> bool
-    ensures { result ≡ is_used visits.now }
-{
-    visits
-        .iter()
-        .any(|visit| matches!(*visit, Visit::Client(_)))
 }
 
 /// Whether the vehicle is of this type and has no client. Condition: it is in range.
@@ -78,7 +66,7 @@ fn is_unused_of(given: &ProblemData, vehicle: u32, visits: &[Visit], number: u32
 }
 
 /// The least unused vehicle of a type, if any.
-fn unused_vehicle(given: &ProblemData, plan: &[VisitList], number: u32) -> Option<usize>
+pub fn unused_vehicle(given: &ProblemData, plan: &[VisitList], number: u32) -> Option<usize>
     requires { length plan.now ≡ vehicle_count given.now }
     ensures { result ≡ unused_vehicle given.now plan.now number }
 {
@@ -91,7 +79,7 @@ fn unused_vehicle(given: &ProblemData, plan: &[VisitList], number: u32) -> Optio
 }
 
 /// The list with the client taken out, and put directly behind another one where that is in it.
-fn with_client_behind(
+pub fn with_client_behind(
     alloc: Global,
     visits: &[Visit],
     client: u32,
@@ -112,7 +100,7 @@ fn with_client_behind(
 }
 
 /// The list with the client taken out, and put directly before another one where that is in it.
-fn with_client_before(
+pub fn with_client_before(
     alloc: Global,
     visits: &[Visit],
     client: u32,
@@ -133,7 +121,7 @@ fn with_client_before(
 }
 
 /// The list with the client taken out.
-fn without_client(alloc: Global, visits: &[Visit], client: u32) -> Result<VisitList, NoMemory>
+pub fn without_client(alloc: Global, visits: &[Visit], client: u32) -> Result<VisitList, NoMemory>
     ensures { IfOk result (λ made. made ≡ flat_map (taken_out client) visits.now) }
 {
     let mut made = Vec::new(alloc);
@@ -146,7 +134,7 @@ fn without_client(alloc: Global, visits: &[Visit], client: u32) -> Result<VisitL
 }
 
 /// The list of one client.
-fn client_alone(alloc: Global, client: u32) -> Result<VisitList, NoMemory>
+pub fn client_alone(alloc: Global, client: u32) -> Result<VisitList, NoMemory>
     ensures { IfOk result (λ made. made ≡ visits_of (client ∷ [])) }
 {
     let mut made = Vec::new(alloc);

@@ -8,7 +8,7 @@ ghost use Rattle.search_model.specs.Search.{descended};
 ghost use Rattle.command_model.specs.EarlySearch.{random_descent};
 ghost use Rattle.early_search.specs.ClientMoves.{IsClientMove};
 ghost use Rattle.early_search.specs.ClientPlans.{IsClientPlan};
-ghost use Rattle.penalty_cost.specs.Totals.{IsWeighed};
+ghost use Rattle.penalty_cost.specs.Plans.{IsWeighed};
 
 use crate::candidates::early_candidates;
 use crate::client_moves::improved_by;
@@ -120,14 +120,14 @@ pub fn random_descent(
     alloc: Global,
     given: &ProblemData,
     plan: &Solution,
-    words: &mut Xor128,
+    generator: &mut Xor128,
     reads: &mut Steps<Reads>,
 ) -> Result<Solution, NoMemory>
     requires { IsClientPlan given.now plan.now.routes }
-    ensures solution { IfOk result (λ r. r.routes ≡ (random_descent given.now plan.now.routes words.old).value) }
+    ensures solution { IfOk result (λ r. r.routes ≡ (random_descent given.now plan.now.routes generator.old).value) }
     ensures planned { IfOk result (λ r. IsClientPlan given.now r.routes) }
 {
-    let order = random_order(alloc, given, words)?;
+    let order = random_order(alloc, given, generator)?;
     let candidates = early_candidates(alloc, given, order.as_slice(), reads)?;
     let mut lists = copied_lists(alloc, plan)?;
     descend(

@@ -3,7 +3,7 @@ ghost use Rattle.std.specs.Prelude.{◌≡◌, IsTrue, pos};
 ghost use Rattle.routing_model.specs.Cost.{solution_cost};
 ghost use Rattle.routing_model.specs.Feasible.{is_feasible};
 ghost use Rattle.early_search.specs.ClientPlans.{IsClientPlan};
-ghost use Rattle.penalty_cost.specs.Totals.{IsWeighed};
+ghost use Rattle.penalty_cost.specs.Plans.{IsWeighed};
 ghost use Rattle.early_search.specs.Found.{cost_if_feasible};
 
 use penalty_cost::{assess, routes_cost, solution_cost};
@@ -29,7 +29,7 @@ pub fn cost_of_lists(
     requires weights { IsWeighed weights }
     ensures { result ≡ pos (solution_cost given.now weights plan.now) }
 {
-    let _valid = given.problem();
+    given.validity();
     routes_cost(given, plan, weights, reads)
 }
 
@@ -38,7 +38,7 @@ fn is_feasible(given: &ProblemData, solution: &Solution, reads: &mut Steps<Reads
     requires { IsClientPlan given.now solution.now.routes }
     ensures { result ≡ is_feasible given.now solution.now.routes }
 {
-    let _valid = given.problem();
+    given.validity();
     let excess = assess(given, solution, reads);
     excess.load == 0 && excess.warp == 0 && excess.distance == 0
 }
@@ -49,7 +49,7 @@ fn first_cost(given: &ProblemData, solution: &Solution, reads: &mut Steps<Reads>
     requires { IsClientPlan given.now solution.now.routes }
     ensures { result ≡ pos (solution_cost given.now FIRST_WEIGHTS solution.now.routes) }
 {
-    let _valid = given.problem();
+    given.validity();
     solution_cost(given, solution, FIRST_WEIGHTS, reads)
 }
 

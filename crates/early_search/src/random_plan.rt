@@ -11,34 +11,31 @@ ghost use Rattle.random_model.specs.RandomSolution as model;
 ghost use Rattle.early_search.specs.ClientPlans.{IsClientPlan};
 ghost use Rattle.early_search.specs.RandomPlan.{group_marks, choice_by_group, meaning, is_taken, state_past};
 
-#[cfg(test)]
-mod tests;
-
 use problem_data::{NoMemory, ProblemData, RouteList, Solution, Visit, VisitList};
 use std::alloc::Global;
 use vrp_num::Xor128;
 
 /// The places from `first` on, each behind a word that is drawn for it.
-fn drawn_keys(
+pub fn drawn_keys(
     alloc: Global,
     first: u32,
     count: u32,
-    words: &mut Xor128,
+    generator: &mut Xor128,
 ) -> Result<Vec<(u32, u32)>, NoMemory>
     requires { first + count < 2 ^ 32 }
-    ensures keys { IfOk result (λ r. r.items ≡ zip (drawn.words count words.old) (range_with_len first count)) }
-    ensures state { OnOk result (words.new ≡ state_after count words.old) }
+    ensures keys { IfOk result (λ r. r.items ≡ zip (drawn.words count generator.old) (range_with_len first count)) }
+    ensures state { OnOk result (generator.new ≡ state_after count generator.old) }
 {
     let mut keys = Vec::new(alloc);
     for place in first..first + count {
-        let word = words.next();
+        let word = generator.next();
         keys.push((word, place))?;
     }
     Ok(keys)
 }
 
 /// The places of keys, in order.
-fn places_of_keys(alloc: Global, keys: &[(u32, u32)]) -> Result<Vec<u32>, NoMemory>
+pub fn places_of_keys(alloc: Global, keys: &[(u32, u32)]) -> Result<Vec<u32>, NoMemory>
     ensures { IfOk result (λ r. r.items ≡ map (λ key. key.1) keys.now) }
 {
     let mut places = Vec::new(alloc);
@@ -54,15 +51,15 @@ fn places_of_keys(alloc: Global, keys: &[(u32, u32)]) -> Result<Vec<u32>, NoMemo
 pub fn random_order(
     alloc: Global,
     given: &ProblemData,
-    words: &mut Xor128,
+    generator: &mut Xor128,
 ) -> Result<Vec<u32>, NoMemory>
-    ensures order { IfOk result (λ r. r.items ≡ (client_order given.now words.old).value) }
-    ensures state { OnOk result (words.new ≡ (client_order given.now words.old).state) }
+    ensures order { IfOk result (λ r. r.items ≡ (client_order given.now generator.old).value) }
+    ensures state { OnOk result (generator.new ≡ (client_order given.now generator.old).state) }
 {
     let problem = given.problem();
     let depots = problem.depots.items().len() as u32;
     let clients = problem.clients.items().len() as u32;
-    let mut keys = drawn_keys(alloc, depots, clients, words)?;
+    let mut keys = drawn_keys(alloc, depots, clients, generator)?;
     keys.sort()?;
     places_of_keys(alloc, keys.as_slice())
 }
@@ -129,14 +126,14 @@ fn choice_at(given: &ProblemData, order: &[u32], at: usize, marks: &mut Vec<bool
 }
 
 /// Whether the client is chosen: where a draw decides, a draw below 2 that is 1 chooses it.
-fn is_chosen(choice: Choice, words: &mut Xor128) -> bool
-    ensures chosen { result ≡ is_taken (meaning choice) words.old }
-    ensures state { words.new ≡ state_past (meaning choice) words.old }
+fn is_chosen(choice: Choice, generator: &mut Xor128) -> bool
+    ensures chosen { result ≡ is_taken (meaning choice) generator.old }
+    ensures state { generator.new ≡ state_past (meaning choice) generator.old }
 {
     match choice {
         Choice::Chosen => true,
         Choice::PassedOver => false,
-        Choice::ByDraw => words.below(2) == 1,
+        Choice::ByDraw => generator.below(2) == 1,
     }
 }
 
@@ -145,17 +142,17 @@ fn chosen_clients(
     alloc: Global,
     given: &ProblemData,
     order: &[u32],
-    words: &mut Xor128,
+    generator: &mut Xor128,
 ) -> Result<Vec<u32>, NoMemory>
     requires { All (λ place. IsTrue (is_client_place given.now place)) order.now }
-    ensures chosen { IfOk result (λ r. r.items ≡ (model.walk given.now order.now words.old).picked) }
-    ensures state { OnOk result (words.new ≡ (model.walk given.now order.now words.old).state) }
+    ensures chosen { IfOk result (λ r. r.items ≡ (model.walk given.now order.now generator.old).picked) }
+    ensures state { OnOk result (generator.new ≡ (model.walk given.now order.now generator.old).state) }
 {
     let mut marks = vec![in alloc; false; given.problem().groups.items().len()]?;
     let mut chosen = Vec::new(alloc);
     for (at, place) in order.iter().enumerate() {
         let choice = choice_at(given, order, at, &mut marks);
-        if is_chosen(choice, words) {
+        if is_chosen(choice, generator) {
             chosen.push(*place)?;
         }
     }
@@ -188,12 +185,12 @@ fn vehicles_of(given: &ProblemData) -> u32
     ensures count { result ≡ vehicle_count given.now }
     ensures some { 1 ≤ result }
 {
-    let _valid = given.problem();
+    given.validity();
     given.vehicles()
 }
 
 /// The chosen clients dealt out in order, so many to each vehicle that they suffice.
-fn dealt(alloc: Global, vehicles: u32, clients: &[u32]) -> Result<Solution, NoMemory>
+pub fn dealt(alloc: Global, vehicles: u32, clients: &[u32]) -> Result<Solution, NoMemory>
     requires { 1 ≤ vehicles }
     ensures { IfOk result (λ r. r.routes ≡ model.dealt vehicles clients.now) }
 {
@@ -209,22 +206,21 @@ fn dealt(alloc: Global, vehicles: u32, clients: &[u32]) -> Result<Solution, NoMe
     })
 }
 
-/// The random plan that the generator's next words give: a random order of the clients is walked,
-/// required clients and a member of each required group are chosen, others by a draw, and the
-/// chosen are dealt out to the vehicles in equal runs. It is lawful, and its lists have clients
-/// alone. Refused only where memory runs out; some
-/// words may then have been drawn.
+/// The random plan that the generator's next words give: a random order of the clients is walked, required clients and a member of
+/// each required group are chosen, others by a draw, and the chosen are dealt out in order, to each vehicle their number divided by
+/// that of the vehicles and rounded up, until none is left. It is lawful, and its lists have clients alone. Refused only where memory
+/// runs out; some words may then have been drawn.
 pub fn random_solution(
     alloc: Global,
     given: &ProblemData,
-    words: &mut Xor128,
+    generator: &mut Xor128,
 ) -> Result<Solution, NoMemory>
-    ensures solution { IfOk result (λ r. r.routes ≡ (model.random_solution given.now words.old).value) }
-    ensures state { OnOk result (words.new ≡ (model.random_solution given.now words.old).state) }
+    ensures solution { IfOk result (λ r. r.routes ≡ (model.random_solution given.now generator.old).value) }
+    ensures state { OnOk result (generator.new ≡ (model.random_solution given.now generator.old).state) }
     ensures planned { IfOk result (λ r. IsClientPlan given.now r.routes) }
 {
-    let _valid = given.problem();
-    let order = random_order(alloc, given, words)?;
-    let chosen = chosen_clients(alloc, given, order.as_slice(), words)?;
+    given.validity();
+    let order = random_order(alloc, given, generator)?;
+    let chosen = chosen_clients(alloc, given, order.as_slice(), generator)?;
     dealt(alloc, vehicles_of(given), chosen.as_slice())
 }

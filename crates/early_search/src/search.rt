@@ -5,9 +5,6 @@ ghost use Rattle.command_model.specs.EarlySearch.{early_search, found_with, foun
 ghost use Rattle.early_search.specs.ClientPlans.{IsClientPlan};
 ghost use Rattle.early_search.specs.Found.{IsFoundAs, is_better_cost};
 
-#[cfg(test)]
-mod tests;
-
 use crate::descent::random_descent;
 use crate::plan_cost::cost_if_feasible;
 use crate::random_plan::random_solution;
@@ -94,12 +91,12 @@ pub fn early_search<R: Threads + Sync>(
     ensures found { IfOk result (IsFoundAs (early_search seed iterations given.now)) }
     ensures feasible { IsFeasibleBest given.now (early_search seed iterations given.now).best }
 {
-    let mut words = Xor128::seeded(seed);
+    let mut generator = Xor128::seeded(seed);
     let mut reads = Steps::new(rt);
-    let first = random_solution(alloc, given, &mut words)?;
+    let first = random_solution(alloc, given, &mut generator)?;
     if iterations == 0 {
         return Ok(found_with_one(given, first, &mut reads));
     }
-    let second = random_descent(alloc, given, &first, &mut words, &mut reads)?;
+    let second = random_descent(alloc, given, &first, &mut generator, &mut reads)?;
     Ok(found_with_two(given, first, second, &mut reads))
 }

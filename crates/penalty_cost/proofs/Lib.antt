@@ -1,7 +1,3 @@
-pub mod LongerPaths
-pub mod LongerCargos
-pub mod ValidLegs
-pub mod LongerStretches
 pub mod TidyStops
 pub mod WholeTotals
 pub mod UsedCosts

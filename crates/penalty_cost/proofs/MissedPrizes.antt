@@ -10,8 +10,9 @@ use Rattle.problem_data.specs.Places.{client_at, client_places, depot_count}
 use Rattle.routing_model.specs.Cost.{missed_prizes}
 use Rattle.routing_model.specs.Lawful.{names_place, names_places}
 use Rattle.routing_model.specs.Routes.{Routes}
-use Rattle.penalty_cost.specs.Totals.{IsDrivable, IsDrivablePlan}
-use Rattle.penalty_cost.specs.VisitSums.{at_plan, prize_at}
+use Rattle.routing_model.specs.Listed.{IsListed}
+use Rattle.penalty_cost.specs.Plans.{IsDrivablePlan}
+use Rattle.penalty_cost.specs.inside.VisitSums.{at_plan, prize_at}
 use Rattle.penalty_cost.proofs.VisitSums.{missed-and_visited, range-more}
 
 -- one client's prize more
@@ -24,8 +25,8 @@ prizes-more p count place prizes client at is h =
     = ap (λ (n : ℕ). sum_by (prize_at p) (range_with_len (depot_count p) n)) (add-one count) in
     omega arith
 
-pub plan-named : (p : Problem) (routes : Routes) → All (IsDrivable p) routes → names_places p routes ≡ true
+pub plan-named : (p : Problem) (routes : Routes) → All (IsListed p) routes → names_places p routes ≡ true
 plan-named p routes each = list_all-from_AllPass (list_all (names_place p)) routes (λ k d h. (each k d h).named)
 
 pub prizes-split : (p : Problem) (routes : Routes) → IsDrivablePlan p routes → missed_prizes p routes + at_plan (prize_at p) routes ≡ sum_by (prize_at p) (client_places p)
-prizes-split p routes plan = missed-and_visited p (prize_at p) routes (plan-named p routes plan.drivable) plan.at_most_once
+prizes-split p routes plan = missed-and_visited p (prize_at p) routes (plan-named p routes plan.listed) plan.at_most_once

@@ -6,6 +6,7 @@ use Rattle.std.proofs.lemmas.List.Sums.{sum_by-take-le}
 use Rattle.problem_data.specs.declared.problem.Problem.{Problem}
 use Rattle.problem_data.specs.declared.problem.VehicleType.{VehicleType}
 use Rattle.problem_data.specs.declared.visit.Visit.{Visit}
+use Rattle.problem_data.specs.Limits.{most_places}
 use Rattle.problem_data.specs.Places.{depot_count, type_at, type_of, vehicle_count}
 use Rattle.problem_data.specs.Valid.{IsValid}
 use Rattle.routing_model.specs.Cost.{excess_distance, excess_time, route_drive}
@@ -16,9 +17,10 @@ use Rattle.routing_model.specs.Stops.{stops}
 use Rattle.routing_model.specs.Tidy.{is_tidy}
 use Rattle.penalty_cost.specs.declared.excess.Excess.{Excess}
 use Rattle.penalty_cost.specs.declared.totals.Totals.{Totals}
-use Rattle.penalty_cost.specs.Excess.{IsExcessOf, IsExcessWithin, clients_in, stops_within}
-use Rattle.penalty_cost.specs.Totals.{AreShared, AreTotals, IsDrivablePlan, drive_of}
-use Rattle.penalty_cost.specs.VisitSums.{at_plan, at_visits}
+use Rattle.penalty_cost.specs.inside.Excess.{IsExcessOf, IsExcessWithin, clients_in, stops_within}
+use Rattle.penalty_cost.specs.Plans.{IsDrivablePlan}
+use Rattle.penalty_cost.specs.inside.Totals.{AreShared, AreTotals, drive_of}
+use Rattle.penalty_cost.specs.inside.VisitSums.{at_plan, at_visits}
 use Rattle.penalty_cost.proofs.FleetSums.{sum_by-filter, vehicles, vehicles-all, vehicles-more}
 use Rattle.penalty_cost.proofs.MissedPrizes.{plan-named}
 use Rattle.penalty_cost.proofs.TidyStops.{stops-few}
@@ -56,15 +58,15 @@ one-each a zero = refl
 one-each a (suc n) = let s = range-more (λ place. 1) a n in let h = one-each a n in omega arith
 
 -- all lists together have no more clients than there are
-pub few-clients : (p : Problem) (routes : Routes) → IsValid p → IsDrivablePlan p routes → at_plan (λ place. 1) routes ≤ 2047
+pub few-clients : (p : Problem) (routes : Routes) → IsValid p → IsDrivablePlan p routes → at_plan (λ place. 1) routes ≤ most_places
 few-clients p routes valid plan =
-    let split = missed-and_visited p (λ place. 1) routes (plan-named p routes plan.drivable) plan.at_most_once in
+    let split = missed-and_visited p (λ place. 1) routes (plan-named p routes plan.listed) plan.at_most_once in
     let all = one-each (depot_count p) (length p.clients) in
     let places = valid.place_limit in
     let depots = valid.some_depot in
     omega arith
 
-pub some_clients-few : (p : Problem) (routes : Routes) (i : ℕ) → IsValid p → IsDrivablePlan p routes → at_plan (λ place. 1) (take i routes) ≤ 2047
+pub some_clients-few : (p : Problem) (routes : Routes) (i : ℕ) → IsValid p → IsDrivablePlan p routes → at_plan (λ place. 1) (take i routes) ≤ most_places
 some_clients-few p routes i valid plan =
     let part = sum_by-take-le (at_visits (λ place. 1)) routes i in
     let whole = few-clients p routes valid plan in

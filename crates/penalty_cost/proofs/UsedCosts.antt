@@ -9,7 +9,7 @@ use Rattle.routing_model.specs.Cost.{excess_time, route_cost, used_cost}
 use Rattle.routing_model.specs.Routes.{is_used}
 use Rattle.routing_model.specs.Tidy.{is_tidy}
 use Rattle.penalty_cost.specs.declared.totals.Totals.{Totals}
-use Rattle.penalty_cost.specs.Totals.{AreTotals, cost_of}
+use Rattle.penalty_cost.specs.inside.Totals.{AreTotals, cost_of}
 
 -- a tidy list that isn't empty has a client
 pub tidy-used : (visits : List Visit) → 0 < length visits → is_tidy visits ≡ true → is_used visits ≡ true

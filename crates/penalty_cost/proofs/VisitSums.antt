@@ -10,7 +10,7 @@ use Rattle.problem_data.specs.declared.visit.Visit.TheVariants.{Client, Reload}
 use Rattle.problem_data.specs.Places.{client_places, depot_count}
 use Rattle.routing_model.specs.Lawful.{names_place, names_places, visits_at_most_once}
 use Rattle.routing_model.specs.Routes.{Routes, has_client, is_visit_of, is_visited, visit_count}
-use Rattle.penalty_cost.specs.VisitSums.{at_plan, at_visit, at_visits}
+use Rattle.penalty_cost.specs.inside.VisitSums.{at_plan, at_visit, at_visits}
 use Rattle.penalty_cost.proofs.FleetSums.{sum_by-filter}
 
 and-first : (a b : Bool) → (a && b) ≡ true → a ≡ true

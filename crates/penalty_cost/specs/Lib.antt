@@ -1,7 +1,2 @@
-pub mod Cargo
-pub mod Path
-pub mod Stretch
-pub mod Totals
-pub mod VisitSums
-pub mod Excess
-pub mod Counts
+pub mod Plans
+pub mod inside

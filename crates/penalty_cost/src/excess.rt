@@ -1,14 +1,15 @@
 //! What plans exceed.
 ghost use Rattle.std.specs.Prelude.{◌≡◌, ℕ, ◌+◌, ◌*◌, ◌^◌, ◌<◌, ◌≤◌, List, length, sum_by};
 ghost use Rattle.problem_data.specs.declared.visit.Visit.{Visit};
-ghost use Rattle.problem_data.specs.Places.{type_at, type_of, vehicle_count};
+ghost use Rattle.problem_data.specs.Places.{vehicle_count};
 ghost use Rattle.problem_data.specs.Reads.{RoseAtMost};
 ghost use Rattle.routing_model.specs.Feasible.{assessment, total_excess_distance, total_excess_load, total_excess_time};
-ghost use Rattle.penalty_cost.specs.Excess.{IsExcessOf, IsExcessWithin, stops_within};
-ghost use Rattle.penalty_cost.specs.Totals.{IsDrivable, IsDrivablePlan};
+ghost use Rattle.penalty_cost.specs.inside.Excess.{IsExcessOf, IsExcessWithin, most_stops, stops_within};
+ghost use Rattle.routing_model.specs.Listed.{IsListed, type_of_vehicle};
+ghost use Rattle.penalty_cost.specs.Plans.{IsDrivablePlan};
 
 use crate::totals::totals_of;
-use crate::vehicle_cost::{excess_distance, excess_time, kind_of};
+use crate::vehicle_cost::{excess_distance, excess_time};
 use problem_data::{ProblemData, Reads, Solution, Steps, Visit, VisitList};
 use routing_model::Assessment;
 
@@ -42,27 +43,27 @@ fn vehicle_excess(
     reads: &mut Steps<Reads>,
 ) -> Excess
     requires vehicle { vehicle < vehicle_count given.now }
-    requires drivable { IsDrivable given.now visits.now }
-    ensures excess { IsExcessOf given.now (type_at given.now (type_of given.now vehicle)) visits.now result }
+    requires listed { IsListed given.now visits.now }
+    ensures excess { IsExcessOf given.now (type_of_vehicle given.now vehicle) visits.now result }
     ensures short { IsExcessWithin (stops_within visits.now) result }
     ensures reads { RoseAtMost (length visits.now + 1) reads.old reads.new }
 {
     if visits.is_empty() {
         return no_excess();
     }
-    let kind = kind_of(given, vehicle);
-    let totals = totals_of(given, kind, visits, reads);
+    let vehicle_type = given.vehicle_type(vehicle);
+    let totals = totals_of(given, vehicle_type, visits, reads);
     Excess {
         load: totals.excess_load,
-        time: excess_time(kind, totals),
-        distance: excess_distance(kind, totals),
+        time: excess_time(vehicle_type, totals),
+        distance: excess_distance(vehicle_type, totals),
     }
 }
 
 /// Both together.
 fn added(first: Excess, second: Excess) -> Excess
-    requires first { (stops : ℕ) × (stops ≤ 20000) × IsExcessWithin stops first }
-    requires second { (stops : ℕ) × (stops ≤ 20000) × IsExcessWithin stops second }
+    requires first { (stops : ℕ) × (stops ≤ most_stops) × IsExcessWithin stops first }
+    requires second { (stops : ℕ) × (stops ≤ most_stops) × IsExcessWithin stops second }
     ensures load { result.load ≡ first.load + second.load }
     ensures time { result.time ≡ first.time + second.time }
     ensures distance { result.distance ≡ first.distance + second.distance }
@@ -80,11 +81,11 @@ fn plan_excess(given: &ProblemData, routes: &[VisitList], reads: &mut Steps<Read
     ensures load { result.load ≡ total_excess_load given.now routes.now }
     ensures time { result.time ≡ total_excess_time given.now routes.now }
     ensures distance { result.distance ≡ total_excess_distance given.now routes.now }
-    ensures short { IsExcessWithin 20000 result }
+    ensures short { IsExcessWithin most_stops result }
     ensures reads { RoseAtMost (sum_by (λ (visits : List Visit). length visits + 1) routes.now) reads.old reads.new }
 {
-    let _vehicles = given.vehicles();
-    let _problem = given.problem();
+    given.vehicles();
+    given.validity();
     let mut excess = no_excess();
     for (vehicle, visits) in routes.iter().enumerate() {
         excess = added(
@@ -99,8 +100,8 @@ fn plan_excess(given: &ProblemData, routes: &[VisitList], reads: &mut Steps<Read
 /// with excess duration, and of their excess distances. The plan is feasible exactly where all are
 /// 0 and it is lawful.
 ///
-/// Conditions: there is one list for each vehicle, each names existing places, is tidy and has at
-/// most 2,079 visits, and no client stands twice. For each vehicle it reads at most one leg more
+/// Conditions: there is one list for each vehicle, each names existing places, is tidy and has no
+/// more visits than a vehicle can have, and no client stands twice. For each vehicle it reads at most one leg more
 /// than there are visits.
 pub fn assess(given: &ProblemData, solution: &Solution, reads: &mut Steps<Reads>) -> Assessment
     requires { IsDrivablePlan given.now solution.now.routes }

@@ -7,10 +7,8 @@ ghost use Rattle.problem_data.specs.Places.{fleet, is_client_place, place_count,
 ghost use Rattle.routing_model.specs.Lawful.{is_allowed, is_lawful, is_required, is_required_group, names_places, reloads_as_allowed, serves_groups, serves_required, visits_at_most_once};
 ghost use Rattle.routing_model.specs.Routes.{is_visited, visit_count};
 ghost use Rattle.routing_model.specs.Tidy.{is_tidy};
-ghost use Rattle.penalty_cost.specs.Counts.{AddsTidiness, CountsMembers, CountsVisit, CountsVisits, IsAnswer, IsCounted, IsGroupAnswer};
+ghost use Rattle.penalty_cost.specs.inside.Counts.{AddsTidiness, CountsMembers, CountsVisit, CountsVisits, IsAnswer, IsCounted, IsGroupAnswer};
 
-use crate::halts::client_of;
-use crate::vehicle_cost::kind_of;
 use problem_data::{NoMemory, ProblemData, Solution, VehicleType, Visit, VisitList};
 use std::alloc::Global;
 
@@ -134,7 +132,7 @@ fn is_required(given: &ProblemData, place: u32) -> bool
     requires { IsTrue (is_client_place given.now place) }
     ensures { result ≡ is_required given.now place }
 {
-    let client = client_of(given, place);
+    let client = given.client(place);
     client.group.is_none() && client.prize == 0
 }
 
@@ -184,7 +182,7 @@ fn is_required_group(given: &ProblemData, members: &[u32]) -> bool
     ensures { result ≡ is_required_group given.now members.now }
 {
     for place in members {
-        if client_of(given, *place).prize != 0 {
+        if given.client(*place).prize != 0 {
             return false;
         }
     }
@@ -243,29 +241,29 @@ fn is_among(depot: u32, depots: &[u32]) -> bool
 }
 
 /// Whether a visit is a client's, or a reload at a depot that the type allows.
-fn is_allowed(kind: &VehicleType, visit: Visit) -> bool
-    ensures { result ≡ is_allowed kind.now visit }
+fn is_allowed(vehicle_type: &VehicleType, visit: Visit) -> bool
+    ensures { result ≡ is_allowed vehicle_type.now visit }
 {
     match visit {
         Visit::Client(_) => true,
-        Visit::Reload(depot) => is_among(depot, kind.reload_depots.items()),
+        Visit::Reload(depot) => is_among(depot, vehicle_type.reload_depots.items()),
     }
 }
 
 /// Whether the reloads of a list are at depots that the type allows, and at most in its number.
-fn reloads_as_allowed(kind: &VehicleType, visits: &[Visit]) -> bool
-    ensures { result ≡ reloads_as_allowed kind.now visits.now }
+fn reloads_as_allowed(vehicle_type: &VehicleType, visits: &[Visit]) -> bool
+    ensures { result ≡ reloads_as_allowed vehicle_type.now visits.now }
 {
     let mut reloads = 0usize;
     for visit in visits {
-        if !is_allowed(kind, *visit) {
+        if !is_allowed(vehicle_type, *visit) {
             return false;
         }
         if let Visit::Reload(_) = *visit {
             reloads += 1;
         }
     }
-    reloads <= kind.reloads as usize
+    reloads <= vehicle_type.reloads as usize
 }
 
 /// Whether the reloads of each list are as its vehicle's type allows.
@@ -273,9 +271,9 @@ fn all_reloads_as_allowed(given: &ProblemData, routes: &[VisitList]) -> bool
     requires { length routes.now ≡ vehicle_count given.now }
     ensures { result ≡ list_all (λ (v : VehicleType × List Visit). reloads_as_allowed v.0 v.1) (zip (fleet given.now) routes.now) }
 {
-    let _vehicles = given.vehicles();
+    given.vehicles();
     for (vehicle, visits) in routes.iter().enumerate() {
-        if !reloads_as_allowed(kind_of(given, vehicle as u32), visits.items()) {
+        if !reloads_as_allowed(given.vehicle_type(vehicle as u32), visits.items()) {
             return false;
         }
     }
@@ -286,7 +284,7 @@ fn all_reloads_as_allowed(given: &ProblemData, routes: &[VisitList]) -> bool
 /// one member of each required group and at most one of another, each list is tidy, and its reloads
 /// are at depots that its vehicle's type allows, at most in the type's number.
 ///
-/// Conditions: there is one list for each vehicle, and each visit names a place of its kind. It
+/// Conditions: there is one list for each vehicle, and each visit names a place of its vehicle_type. It
 /// takes one byte for each place; refused only where memory runs out.
 pub fn is_lawful(alloc: Global, given: &ProblemData, solution: &Solution) -> Result<bool, NoMemory>
     requires one_list_each { length solution.now.routes ≡ vehicle_count given.now }

@@ -1,14 +1,10 @@
-//! What plans cost, and what they exceed, by driving each vehicle's stops once.
+//! What plans cost, and what they exceed: each vehicle's list is driven once.
 #![tactic(auto)]
 
-mod cargo;
 mod excess;
-mod halts;
 mod lawful;
-mod path;
 mod plan_cost;
 mod prizes;
-mod stretch;
 mod totals;
 mod vehicle_cost;
 

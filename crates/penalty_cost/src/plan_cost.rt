@@ -1,10 +1,13 @@
 //! What plans cost and exceed.
 ghost use Rattle.std.specs.Prelude.{◌≡◌, ◌+◌, ◌*◌, ◌<◌, ◌≤◌, List, length, pos, sum_by};
 ghost use Rattle.problem_data.specs.declared.visit.Visit.{Visit};
-ghost use Rattle.problem_data.specs.Places.{type_at, type_of, vehicle_count};
+ghost use Rattle.problem_data.specs.Limits.{most_vehicles};
+ghost use Rattle.problem_data.specs.Places.{vehicle_count};
 ghost use Rattle.problem_data.specs.Reads.{RoseAtMost};
 ghost use Rattle.routing_model.specs.Cost.{route_cost, solution_cost};
-ghost use Rattle.penalty_cost.specs.Totals.{IsDrivable, IsDrivablePlan, IsWeighed, most_cost, vehicles_cost};
+ghost use Rattle.routing_model.specs.Listed.{IsListed, type_of_vehicle};
+ghost use Rattle.penalty_cost.specs.Plans.{IsDrivablePlan, IsWeighed};
+ghost use Rattle.penalty_cost.specs.inside.Totals.{most_cost, vehicles_cost};
 
 use crate::prizes::missed_prizes;
 use crate::vehicle_cost::vehicle_cost;
@@ -16,8 +19,8 @@ use routing_model::Weights;
 /// and excess distance; nothing where the list has no client. It drives from the start of least
 /// time warp and then of least duration.
 ///
-/// Conditions: the vehicle is in range, the list names existing places, is tidy and has at most
-/// 2,079 visits, and no weight exceeds 10^9. It reads at most one leg more than there are visits.
+/// Conditions: the vehicle is in range, the list names existing places, is tidy and has no more
+/// visits than a vehicle can have, and no weight exceeds 10^9. It reads at most one leg more than there are visits.
 pub fn route_cost(
     given: &ProblemData,
     vehicle: u32,
@@ -26,9 +29,9 @@ pub fn route_cost(
     reads: &mut Steps<Reads>,
 ) -> i128
     requires vehicle { vehicle < vehicle_count given.now }
-    requires drivable { IsDrivable given.now visits.now }
+    requires listed { IsListed given.now visits.now }
     requires weights { IsWeighed weights }
-    ensures cost { result ≡ pos (route_cost given.now weights (type_at given.now (type_of given.now vehicle)) visits.now) }
+    ensures cost { result ≡ pos (route_cost given.now weights (type_of_vehicle given.now vehicle) visits.now) }
     ensures reads { RoseAtMost (length visits.now + 1) reads.old reads.new }
 {
     vehicle_cost(given, vehicle, visits, weights, reads) as i128
@@ -44,10 +47,10 @@ fn vehicles_cost(
     requires plan { IsDrivablePlan given.now routes.now }
     requires weights { IsWeighed weights }
     ensures value { result ≡ vehicles_cost given.now weights routes.now }
-    ensures short { result ≤ 2048 * most_cost }
+    ensures short { result ≤ most_vehicles * most_cost }
     ensures reads { RoseAtMost (sum_by (λ (visits : List Visit). length visits + 1) routes.now) reads.old reads.new }
 {
-    let _vehicles = given.vehicles();
+    given.vehicles();
     let mut cost = 0;
     for (vehicle, visits) in routes.iter().enumerate() {
         cost += vehicle_cost(given, vehicle as u32, visits.items(), weights, reads);
@@ -58,8 +61,8 @@ fn vehicles_cost(
 /// What a plan costs, given by its lists: what its vehicles cost, and the prizes of the clients that
 /// it doesn't visit.
 ///
-/// Conditions: there is one list for each vehicle, each names existing places, is tidy and has at
-/// most 2,079 visits, no client stands twice, and no weight exceeds 10^9. For each vehicle it reads
+/// Conditions: there is one list for each vehicle, each names existing places, is tidy and has no
+/// more visits than a vehicle can have, no client stands twice, and no weight exceeds 10^9. For each vehicle it reads
 /// at most one leg more than there are visits.
 pub fn routes_cost(
     given: &ProblemData,

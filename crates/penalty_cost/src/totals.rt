@@ -2,12 +2,12 @@
 ghost use Rattle.std.specs.Prelude.{◌≡◌, ◌+◌, ◌≤◌, length};
 ghost use Rattle.problem_data.specs.Reads.{RoseAtMost};
 ghost use Rattle.problem_data.specs.Valid.{IsValidType};
+ghost use Rattle.routing_model.specs.Listed.{IsListed};
 ghost use Rattle.routing_model.specs.Stops.{stops};
-ghost use Rattle.penalty_cost.specs.Totals.{AreShared, AreShort, AreTotals, IsDrivable};
+ghost use Rattle.penalty_cost.specs.inside.Totals.{AreShared, AreShort, AreTotals};
 
-use crate::cargo::whole_excess;
-use crate::stretch::whole_stretch;
 use problem_data::{ProblemData, Reads, Steps, VehicleType, Visit};
+use trips::whole_of;
 
 /// What a vehicle's list takes and exceeds.
 #[derive(Clone, Copy)]
@@ -25,23 +25,24 @@ pub(crate) struct Totals {
 /// The totals of a list, at one leg more than it has visits.
 pub(crate) fn totals_of(
     given: &ProblemData,
-    kind: &VehicleType,
+    vehicle_type: &VehicleType,
     visits: &[Visit],
     reads: &mut Steps<Reads>,
 ) -> Totals
-    requires kind { IsValidType given.now kind.now }
-    requires drivable { IsDrivable given.now visits.now }
-    ensures totals { AreTotals given.now kind.now visits.now result }
+    requires vehicle_type { IsValidType given.now vehicle_type.now }
+    requires listed { IsListed given.now visits.now }
+    ensures totals { AreTotals given.now vehicle_type.now visits.now result }
     ensures short { AreShort result }
-    ensures shared { AreShared (length (stops given.now kind.now visits.now)) result }
+    ensures shared { AreShared (length (stops given.now vehicle_type.now visits.now)) result }
     ensures reads { RoseAtMost (length visits.now + 1) reads.old reads.new }
 {
-    let whole = whole_stretch(given, kind, visits, reads);
-    let path = whole.path;
+    given.validity();
+    let whole = whole_of(given, vehicle_type, visits, reads);
+    let drive = whole.segment.duration;
     Totals {
-        distance: path.distance.distance as u64,
-        duration: path.duration.least_duration() as u64,
-        warp: path.duration.least_warp() as u64,
-        excess_load: whole_excess(whole.cargo, kind.capacity),
+        distance: whole.distance as u64,
+        duration: drive.least_duration() as u64,
+        warp: drive.least_warp() as u64,
+        excess_load: whole.segment.excess as u64,
     }
 }

@@ -22,8 +22,8 @@ use Rattle.command_model.specs.Outcomes.{outcome_of_reading, text_of_best}
 use Rattle.pyvrp.specs.declared.outcome.Answer.{Answer}
 use Rattle.pyvrp.specs.declared.outcome.Outcome.{Outcome}
 use Rattle.pyvrp.specs.declared.outcome.Outcome.TheVariants as shown
-use Rattle.pyvrp.specs.Report.{IsRefusalOf, Tells, answer_with, plan_found, text_with}
-use Rattle.pyvrp.specs.Texts.{ComesOfBytes}
+use Rattle.pyvrp.specs.inside.Report.{IsRefusalOf, Tells, answer_with, plan_found, text_with}
+use Rattle.pyvrp.specs.inside.Texts.{ComesOfBytes}
 
 -- the text of the best plan
 text-of-best : (p : Problem) (best : Option Best)

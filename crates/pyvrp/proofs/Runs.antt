@@ -1,14 +1,17 @@
 -- What a run answers, from what its parts answer.
 use Rattle.std.proofs.Common.{◌≡◌, ℕ, List, [], ◌∷◌, refl, sym, ◌∙◌, ap, subst, inl, inr, arith}
 use Rattle.std.specs.Prelude.{Option, Some, None}
-use Rattle.command_model.specs.Command.{Effects, effects_of, refused_words}
+use Rattle.outside_model.specs.Delivery.{Delivers, Effects}
+use Rattle.outside_model.specs.Sinks.{IsGiven, IsUntouched, SinkOfCall}
+use Rattle.batch_run.specs.Loads.{FilesOfCall}
+use Rattle.command_model.specs.Command.{effects_of, refused_words}
 use Rattle.command_model.specs.Outcomes as model
 use Rattle.command_model.specs.Words.{Asked, base_name}
 use Rattle.pyvrp.specs.declared.outcome.Outcome.{Outcome}
 use Rattle.pyvrp.specs.declared.run.Texts.{Texts}
-use Rattle.pyvrp.specs.Report.{StandsFor, TellsErrors, TellsOutput, TellsStatus}
-use Rattle.pyvrp.specs.Run.{Delivers, FilesOfCall, IsGiven, IsUntouched, RefusesWords, Runs, RunsInstance, SinkOfCall}
-use Rattle.pyvrp.specs.Texts.{HasTextsOf, IsEffects}
+use Rattle.pyvrp.specs.inside.Report.{StandsFor, TellsErrors, TellsOutput, TellsStatus}
+use Rattle.pyvrp.specs.Run.{RefusesWords, Runs, RunsInstance}
+use Rattle.pyvrp.specs.inside.Texts.{HasTextsOf, IsEffects}
 
 -- the texts of an instance's name are those of its path
 pub is_effects : (path name : List ℕ) (shown : Outcome) (texts : Texts) (errors : List ℕ) → name ≡ base_name path → texts.err.items ≡ errors
@@ -23,13 +26,15 @@ is_effects path name shown texts errors named same output faults status outcome 
     }
 
 -- wrong words
-pub runs-refused : (asked : Option Asked) (files : FilesOfCall) (out err : SinkOfCall) (text : List ℕ) → None ≡ asked → files.after ≡ files.before → IsUntouched out
+pub runs-refused : (asked : Option Asked) (files : FilesOfCall) (out err : SinkOfCall) (text : List ℕ) → None ≡ asked → files.faults_after ≡ files.faults_before
+    → files.holding_after ≡ files.holding_before → IsUntouched out
     → text ≡ refused_words.err → IsGiven text err → Runs asked files out err 2
-runs-refused asked files out err text none no_fault untouched is given =
+runs-refused asked files out err text none no_fault kept untouched is given =
     subst (λ (a : Option Asked). Runs a files out err 2) none
     (let refuses : RefusesWords files out err 2 = record {
       answered = refl;
       no_fault = no_fault;
+      kept = kept;
       out_untouched = untouched;
       err_given = subst (λ (t : List ℕ). IsGiven t err) is given;
     } in refuses)

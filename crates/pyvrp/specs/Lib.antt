@@ -1,4 +1,9 @@
-pub mod Asked
-pub mod Report
+pub use Rattle.outside_model.specs.Delivery
+pub use Rattle.outside_model.specs.Sinks
+pub use Rattle.batch_run.specs.Loads
+pub use Rattle.command_model.specs.Command
+pub use Rattle.command_model.specs.EarlySearch
+pub use Rattle.command_model.specs.Outcomes
+pub use Rattle.command_model.specs.Words
+pub mod inside
 pub mod Run
-pub mod Texts

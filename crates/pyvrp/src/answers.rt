@@ -3,7 +3,7 @@ ghost use Rattle.std.specs.Prelude.{◌≡◌, IfOk, IfSome, length};
 ghost use Rattle.problem_data.specs.Places.{vehicle_count};
 ghost use Rattle.problem_data.specs.Valid.{IsValid};
 ghost use Rattle.command_model.specs.EarlySearch.{early_search};
-ghost use Rattle.pyvrp.specs.Report.{Tells, answer_with, plan_found, text_with};
+ghost use Rattle.pyvrp.specs.inside.Report.{Tells, answer_with, plan_found, text_with};
 
 use crate::outcome::Answer;
 use early_search::{Found, early_search};

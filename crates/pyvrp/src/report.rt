@@ -1,6 +1,6 @@
 //! The texts and the status that come of an instance.
 ghost use Rattle.std.specs.Prelude.{◌≡◌, IfOk, string_bytes};
-ghost use Rattle.pyvrp.specs.Report.{TellsErrors, TellsOutput, TellsStatus, count_shown, fault_shown, row_shown, status_shown, text_shown};
+ghost use Rattle.pyvrp.specs.inside.Report.{TellsErrors, TellsOutput, TellsStatus, count_shown, fault_shown, row_shown, status_shown, text_shown};
 
 use crate::outcome::Outcome;
 use crate::table::{

@@ -1,11 +1,13 @@
 //! The run of the command: from its words to its texts and its status.
 ghost use Rattle.std.specs.Prelude.{◌≡◌, ◌≢◌, IfOk, map, string_bytes, true, false};
-ghost use Rattle.command_model.specs.Command.{Effects};
+ghost use Rattle.outside_model.specs.Delivery.{Delivers, Effects};
+ghost use Rattle.outside_model.specs.Sinks.{HasFault, HoldsWhole, IsGiven, IsUntouched, sink_of};
+ghost use Rattle.batch_run.specs.Loads.{files_of};
 ghost use Rattle.command_model.specs.Words.{asked};
-ghost use Rattle.pyvrp.specs.Asked.{shown};
-ghost use Rattle.pyvrp.specs.Report.{IsRefusalOf};
-ghost use Rattle.pyvrp.specs.Run.{Delivers, HasFault, HoldsWhole, IsGiven, IsUntouched, Runs, files_of, sink_of};
-ghost use Rattle.pyvrp.specs.Texts.{ComesOfBytes, ComesOfPath, HasTextsOf, IsEffects, TellsEffects};
+ghost use Rattle.pyvrp.specs.inside.Asked.{shown};
+ghost use Rattle.pyvrp.specs.inside.Report.{IsRefusalOf};
+ghost use Rattle.pyvrp.specs.Run.{Runs};
+ghost use Rattle.pyvrp.specs.inside.Texts.{ComesOfBytes, ComesOfPath, HasTextsOf, IsEffects, TellsEffects};
 
 use crate::answers::answer_of;
 use crate::outcome::Outcome;
@@ -80,7 +82,7 @@ fn outcome_of_path<R: Threads + Sync, F: Files>(
     files: &mut F,
 ) -> Result<Outcome, NoMemory>
     ensures found { IfOk result (ComesOfPath seed iterations path.now
-        (files_of (F.holding files.old) (F.faults files.old) (F.faults files.new))) }
+        (files_of (F.holding files.old) (F.holding files.new) (F.faults files.old) (F.faults files.new))) }
     ensures kept { F.holding files.new ≡ F.holding files.old }
 {
     match files.load(path, LARGEST_FILE) {
@@ -111,7 +113,7 @@ fn texts_of_path<R: Threads + Sync, F: Files>(
     files: &mut F,
 ) -> Result<Texts, NoMemory>
     ensures found { IfOk result (HasTextsOf (shown asked.now)
-        (files_of (F.holding files.old) (F.faults files.old) (F.faults files.new))) }
+        (files_of (F.holding files.old) (F.holding files.new) (F.faults files.old) (F.faults files.new))) }
     ensures kept { F.holding files.new ≡ F.holding files.old }
 {
     let outcome = outcome_of_path(rt, alloc, asked.path, asked.seed, asked.iterations, files)?;
@@ -148,7 +150,7 @@ fn deliver<O: Sink, E: Sink>(texts: &Texts, out: &mut O, err: &mut E) -> u8
 /// Runs the command.
 ///
 /// The words are `--seed S --max_iterations N NAME`, N being 0 or 1. The instance is loaded from the files, read and searched; its plan
-/// and a line of the table are put to `out`, and the line of its fault, if it has one, to `err`.
+/// and the table are put to `out`, and before that the line of its fault, if it has one, to `err`.
 ///
 /// The status is 2 where the words are wrong, 3 for want of memory (nothing was put then), 4 where an output failed, 1 where
 /// the instance wasn't read, and else 0.
@@ -161,7 +163,7 @@ pub fn run_command<R: Threads + Sync, F: Files, O: Sink, E: Sink>(
     err: &mut E,
 ) -> u8
     ensures runs { result ≢ 3 → Runs (asked (map string_bytes words.items))
-        (files_of (F.holding files.old) (F.faults files.old) (F.faults files.new))
+        (files_of (F.holding files.old) (F.holding files.new) (F.faults files.old) (F.faults files.new))
         (sink_of (O.written out.old) (O.written out.new) (O.faults out.old) (O.faults out.new))
         (sink_of (E.written err.old) (E.written err.new) (E.faults err.old) (E.faults err.new)) result }
     ensures no_memory { result ≡ 3

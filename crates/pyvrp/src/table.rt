@@ -1,5 +1,6 @@
 //! The lines that the command prints: a table with a row for each instance, and fault lines.
 ghost use Rattle.std.specs.Prelude.{◌≡◌, ◌++◌, IfOk, OnOk, string_bytes};
+ghost use Rattle.command_model.specs.Outcomes.{program};
 ghost use Rattle.vrp_texts.specs.FaultLines.{key_text, long_line, refused_line, unread_line};
 ghost use Rattle.vrp_texts.specs.Tables.{count_line, found_row, header, none_row, refused_row, table_line};
 
@@ -66,14 +67,14 @@ pub fn count_line(alloc: Global, feasible: usize, all: usize) -> Result<String, 
 
 /// The line of an instance that could not be loaded.
 pub fn unread_line(alloc: Global, name: &str) -> Result<String, AllocError>
-    ensures { IfOk result (λ text. string_bytes text ≡ unread_line name.now) }
+    ensures { IfOk result (λ text. string_bytes text ≡ unread_line program name.now) }
 {
     format!(in alloc; "pyvrp: {name}: cannot be read\n")
 }
 
 /// The line of an instance that is too long.
 pub fn long_line(alloc: Global, name: &str) -> Result<String, AllocError>
-    ensures { IfOk result (λ text. string_bytes text ≡ long_line name.now) }
+    ensures { IfOk result (λ text. string_bytes text ≡ long_line program name.now) }
 {
     format!(in alloc; "pyvrp: {name}: too long\n")
 }
@@ -94,7 +95,7 @@ fn push_key(text: &mut String, rule: &Rule) -> Result<(), AllocError>
 /// The line of an instance whose text is refused: the faulty line's number, and the number and
 /// name of the rule that it breaks.
 pub fn refused_line(alloc: Global, name: &str, refusal: &Refusal) -> Result<String, AllocError>
-    ensures { IfOk result (λ text. string_bytes text ≡ refused_line name.now refusal.now) }
+    ensures { IfOk result (λ text. string_bytes text ≡ refused_line program name.now refusal.now) }
 {
     let line = refusal.line;
     let number = refusal.rule.number();

@@ -1,7 +1,7 @@
 //! The words of the command.
 ghost use Rattle.std.specs.Prelude.{◌≡◌, ◌==◌, ◌<◌, length, map, option_map, string_bytes};
 ghost use Rattle.std.specs.List.{after_last};
-ghost use Rattle.pyvrp.specs.Asked.{shown};
+ghost use Rattle.pyvrp.specs.inside.Asked.{shown};
 ghost use Rattle.command_model.specs.Words.{are_option_names, asked, asked_by, base_name, is_option_like, number_up_to, without_ending, word_at};
 
 /// The most iterations that may be asked for.

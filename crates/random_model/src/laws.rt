@@ -1,3 +1,4 @@
+//! Laws of the random solution, as contracts of calls that do nothing.
 ghost use Rattle.random_model.specs.Laws.{RandomHasClientsAlone, RandomIsLawful};
 
 /// Each random solution of a valid problem is lawful.

@@ -15,7 +15,7 @@ use Rattle.trips.specs.Runs.{Run, whole}
 use Rattle.trips.proofs.RunJoins.{fit-can, joined-at}
 use Rattle.trips.proofs.RunPlaces.{leaves-start, reaches-end}
 use Rattle.trips.proofs.RunSteps.{fit-longer, fit-more, holds-longer, holds-more, leaves-more, named-at, place-named, reaches-before, run-whole, whole-joined}
-use Rattle.route_cache.specs.Inside.Tables.{GoesOn, IsBegun, run_up_to}
+use Rattle.route_cache.specs.inside.Tables.{GoesOn, IsBegun, run_up_to}
 use Rattle.route_cache.specs.Marks.{place_along, place_or}
 use Rattle.route_cache.proofs.Slices.{slice-none}
 

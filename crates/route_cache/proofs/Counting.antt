@@ -9,8 +9,8 @@ use Rattle.problem_data.specs.declared.visit.Visit.TheVariants.{Client, Reload}
 use Rattle.problem_data.specs.Limits.{largest}
 use Rattle.problem_data.specs.Visits.{is_client}
 use Rattle.routing_model.specs.Routes.{clients_of}
-use Rattle.route_cache.specs.Inside.Shapes.{Side, back, front, reload_of}
-use Rattle.route_cache.specs.Inside.Tables.{reloads_of_side}
+use Rattle.route_cache.specs.inside.Shapes.{Side, back, front, reload_of}
+use Rattle.route_cache.specs.inside.Tables.{reloads_of_side}
 use Rattle.route_cache.specs.Marks.{reloads_in}
 use Rattle.route_cache.proofs.Slices.{slice-before, slice-more, slice-none, slice-split}
 

@@ -20,7 +20,7 @@ use Rattle.trips.proofs.Places.{joint-nothing}
 use Rattle.trips.proofs.RunPlaces.{leaves-alone, leaves-longer, places-runs, same_length}
 use Rattle.trips.proofs.RunSteps.{named-at}
 use Rattle.trips.proofs.RunVisits.{depot-rests}
-use Rattle.route_cache.specs.Inside.Lookups.{run_along}
+use Rattle.route_cache.specs.inside.Lookups.{run_along}
 use Rattle.route_cache.specs.Marks.{run_to}
 use Rattle.route_cache.proofs.Slices.{slice-before, slice-more, slice-split}
 

@@ -17,7 +17,7 @@ use Rattle.trips.specs.Runs.{Run, run_stops}
 use Rattle.trips.specs.Standing.{StandsForRun}
 use Rattle.trips.proofs.Quantities.{valid_client_at}
 use Rattle.trips.proofs.RunCounts.{all-named}
-use Rattle.route_cache.specs.Inside.Lookups.{IsAlone, IsLone, IsView}
+use Rattle.route_cache.specs.inside.Lookups.{IsAlone, IsLone, IsView}
 use Rattle.route_cache.specs.Routes.{IsTypeFor, RouteState, ViewState, lent, run_of}
 use Rattle.route_cache.proofs.Counting.{amounts-bound}
 use Rattle.route_cache.proofs.Slices.{slice-one}

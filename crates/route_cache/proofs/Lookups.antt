@@ -3,15 +3,15 @@ use Rattle.std.proofs.Common.{◌≡◌, ℕ, ◌+◌, ◌-◌, ◌<◌, ◌≤�
 use Rattle.problem_data.specs.declared.problem.Problem.{Problem}
 use Rattle.problem_data.specs.declared.problem.VehicleType.{VehicleType}
 use Rattle.problem_data.specs.declared.visit.Visit.{Visit}
-use Rattle.trips.specs.declared.pieces.Piece.{Piece}
+use Rattle.trips.specs.declared.piece.Piece.{Piece}
 use Rattle.trips.specs.declared.trip_segment.TripSegment.{TripSegment}
 use Rattle.trips.specs.RunSegments.{HoldsRun, run_before, run_from}
 use Rattle.route_cache.specs.declared.kept.Kept.{Kept}
 use Rattle.route_cache.specs.declared.mark.Mark.{Mark}
-use Rattle.route_cache.specs.Inside.Kept.{IsKept}
-use Rattle.route_cache.specs.Inside.Lookups.{IsPart}
-use Rattle.route_cache.specs.Inside.Shapes.{back, front, shaped}
-use Rattle.route_cache.specs.Inside.Tables.{IsBegun, TripsHold, reloads_of_side, run_of_side}
+use Rattle.route_cache.specs.inside.Kept.{IsKept}
+use Rattle.route_cache.specs.inside.Lookups.{IsPart}
+use Rattle.route_cache.specs.inside.Shapes.{back, front, shaped}
+use Rattle.route_cache.specs.inside.Tables.{IsBegun, TripsHold, reloads_of_side, run_of_side}
 use Rattle.route_cache.specs.Marks.{reloads_in}
 use Rattle.route_cache.proofs.Counting.{reloads-split}
 use Rattle.route_cache.proofs.MarkFacts.{mark-read}

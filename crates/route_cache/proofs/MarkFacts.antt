@@ -26,9 +26,9 @@ use Rattle.trips.proofs.RunCounts.{run-in_range}
 use Rattle.trips.proofs.RunJoins.{length-run_in_range}
 use Rattle.trips.proofs.RunPlaces.{same_length}
 use Rattle.route_cache.specs.declared.mark.Mark.{Mark}
-use Rattle.route_cache.specs.Inside.Passes.{IsMarked}
-use Rattle.route_cache.specs.Inside.Shapes.{reload_of}
-use Rattle.route_cache.specs.Inside.Tables.{IsBegun}
+use Rattle.route_cache.specs.inside.Passes.{IsMarked}
+use Rattle.route_cache.specs.inside.Shapes.{reload_of}
+use Rattle.route_cache.specs.inside.Tables.{IsBegun}
 use Rattle.route_cache.specs.Marks.{AreMarks, IsMark, IsSmallMark, deliveries_of, leg_over, leg_to, pickups_of, place_along, reloads_in, run_to}
 use Rattle.route_cache.proofs.Alongs.{along-end, along-visit}
 use Rattle.route_cache.proofs.Counting.{amounts-bound, amounts-more, length-slice, reloads-bound, reloads-more}

@@ -9,9 +9,9 @@ use Rattle.trips.specs.RunSegments.{HoldsRun, run_before, run_from}
 use Rattle.route_cache.specs.declared.mark.Mark.{Mark}
 use Rattle.route_cache.specs.declared.forward.Forward.{Forward}
 use Rattle.route_cache.specs.declared.backward.Backward.{Backward}
-use Rattle.route_cache.specs.Inside.Passes.{IsBackward, IsForward}
-use Rattle.route_cache.specs.Inside.Shapes.{Grows, back, front, grown_middles, grown_outer, head_of, middle_of, reload_of, tail_of}
-use Rattle.route_cache.specs.Inside.Tables.{reloads_of_side, run_of_side}
+use Rattle.route_cache.specs.inside.Passes.{IsBackward, IsForward}
+use Rattle.route_cache.specs.inside.Shapes.{Grows, back, front, grown_middles, grown_outer, head_of, middle_of, reload_of, tail_of}
+use Rattle.route_cache.specs.inside.Tables.{reloads_of_side, run_of_side}
 use Rattle.route_cache.specs.Marks.{IsMark, place_along, reloads_in}
 use Rattle.std.proofs.Common.{slice_range}
 use Rattle.route_cache.proofs.Counting.{reloads-fewer, reloads-from, reloads-more}

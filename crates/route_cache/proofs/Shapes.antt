@@ -6,15 +6,15 @@ use Rattle.problem_data.specs.declared.problem.Problem.{Problem}
 use Rattle.problem_data.specs.declared.problem.VehicleType.{VehicleType}
 use Rattle.problem_data.specs.declared.visit.Visit.{Visit}
 use Rattle.problem_data.specs.declared.visit.Visit.TheVariants.{Client, Reload}
-use Rattle.trips.specs.declared.pieces.Piece.{Piece}
-use Rattle.trips.specs.declared.pieces.Middle.{Middle}
+use Rattle.trips.specs.declared.piece.Piece.{Piece}
+use Rattle.trips.specs.declared.middle.Middle.{Middle}
 use Rattle.trips.specs.declared.trip_segment.TripSegment.{TripSegment}
 use Rattle.trips.specs.declared.trip_segment.TripSegment.TheVariants.{Open, Split}
 use Rattle.trips.specs.Merging.{merged_trips}
 use Rattle.trips.specs.RunSegments.{alone, end_alone, start_alone}
 use Rattle.trips.specs.Runs.{Stretch}
 use Rattle.trips.specs.Standing.{StandsForRun}
-use Rattle.route_cache.specs.Inside.Shapes.{Grows, Side, back, front, inner_of, middle_of, no_trip, outer_of, outer_or, shaped, split_at, tail_of, head_of, with_inner}
+use Rattle.route_cache.specs.inside.Shapes.{Grows, Side, back, front, inner_of, middle_of, no_trip, outer_of, outer_or, shaped, split_at, tail_of, head_of, with_inner}
 
 one-not_more : (x first last : Stretch) (between : List Stretch) → x ∷ [] ≡ first ∷ (between ++ last ∷ []) → ⊥
 one-not_more x first last [] h = cc

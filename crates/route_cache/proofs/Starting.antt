@@ -8,9 +8,9 @@ use Rattle.trips.specs.Runs.{Run}
 use Rattle.route_cache.specs.declared.mark.Mark.{Mark}
 use Rattle.route_cache.specs.declared.forward.Forward.{Forward}
 use Rattle.route_cache.specs.declared.backward.Backward.{Backward}
-use Rattle.route_cache.specs.Inside.Passes.{IsBackward, IsForward}
-use Rattle.route_cache.specs.Inside.Shapes.{back, front, head_of, no_trip, tail_of}
-use Rattle.route_cache.specs.Inside.Tables.{TripsHold, run_of_side}
+use Rattle.route_cache.specs.inside.Passes.{IsBackward, IsForward}
+use Rattle.route_cache.specs.inside.Shapes.{back, front, head_of, no_trip, tail_of}
+use Rattle.route_cache.specs.inside.Tables.{TripsHold, run_of_side}
 use Rattle.route_cache.specs.Marks.{IsMark}
 use Rattle.route_cache.proofs.MarkFacts.{marked-start}
 use Rattle.route_cache.proofs.Shapes.{open-end, open-start}

@@ -5,11 +5,11 @@ use Rattle.problem_data.specs.declared.problem.Problem.{Problem}
 use Rattle.problem_data.specs.declared.problem.VehicleType.{VehicleType}
 use Rattle.problem_data.specs.declared.visit.Visit.{Visit}
 use Rattle.problem_data.specs.declared.visit.Visit.TheVariants.{Client, Reload}
-use Rattle.trips.specs.declared.pieces.Piece.{Piece}
-use Rattle.trips.specs.declared.pieces.Middle.{Middle}
+use Rattle.trips.specs.declared.piece.Piece.{Piece}
+use Rattle.trips.specs.declared.middle.Middle.{Middle}
 use Rattle.trips.specs.declared.trip_segment.TripSegment.{TripSegment}
-use Rattle.route_cache.specs.Inside.Shapes.{Grows, Side, grown_middles, grown_outer, inner_of, middle_of, no_trip, outer_of, outer_or, reload_of, shaped, split_at, with_inner}
-use Rattle.route_cache.specs.Inside.Tables.{IsLatest, IsTable, TripsHold, reloads_of_side, run_of_side}
+use Rattle.route_cache.specs.inside.Shapes.{Grows, Side, grown_middles, grown_outer, inner_of, middle_of, no_trip, outer_of, outer_or, reload_of, shaped, split_at, with_inner}
+use Rattle.route_cache.specs.inside.Tables.{IsLatest, IsTable, TripsHold, reloads_of_side, run_of_side}
 use Rattle.trips.specs.declared.trip_segment.TripSegment.TheVariants.{Open}
 use Rattle.route_cache.proofs.Counting.{reloads-none}
 use Rattle.route_cache.proofs.Shapes.{shaped-open, outer-kept, outer-split, shaped-inner, shaped-kept, shaped-more}

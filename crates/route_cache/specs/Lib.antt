@@ -1,4 +1,4 @@
-pub mod Inside
+pub mod inside
 pub mod Marks
 pub mod Routes
 pub mod Views

@@ -3,7 +3,7 @@ ghost use Rattle.std.specs.Prelude.{◌≡◌, ◌+◌, ◌-◌, ◌<◌, IfOk, 
 ghost use Rattle.problem_data.specs.Places.{leg_distance, leg_duration};
 ghost use Rattle.problem_data.specs.Valid.{IsValid, IsValidType};
 ghost use Rattle.routing_model.specs.Listed.{IsListed};
-ghost use Rattle.route_cache.specs.Inside.Passes.{IsBackward, IsMarked};
+ghost use Rattle.route_cache.specs.inside.Passes.{IsBackward, IsMarked};
 ghost use Rattle.route_cache.specs.Marks.{place_along};
 
 use crate::growing::grown_before;

@@ -6,7 +6,7 @@ ghost use Rattle.problem_data.specs.Valid.{IsValid, IsValidType};
 ghost use Rattle.routing_model.specs.Listed.{IsListed};
 ghost use Rattle.trips.specs.RunSegments.{HoldsRun, run_before};
 ghost use Rattle.trips.specs.WholeRoutes.{IsWhole};
-ghost use Rattle.route_cache.specs.Inside.Passes.{IsForward, IsMarked};
+ghost use Rattle.route_cache.specs.inside.Passes.{IsForward, IsMarked};
 ghost use Rattle.route_cache.specs.Marks.{place_along};
 
 use crate::growing::grown_behind;

@@ -4,8 +4,8 @@ ghost use Rattle.problem_data.specs.Places.{leg_distance, leg_duration};
 ghost use Rattle.problem_data.specs.Valid.{IsValid, IsValidType};
 ghost use Rattle.routing_model.specs.Listed.{IsListed};
 ghost use Rattle.trips.specs.RunSegments.{HoldsRun, run_from};
-ghost use Rattle.route_cache.specs.Inside.Shapes.{Grows, back, front};
-ghost use Rattle.route_cache.specs.Inside.Tables.{GoesOn, IsBegun, run_up_to};
+ghost use Rattle.route_cache.specs.inside.Shapes.{Grows, back, front};
+ghost use Rattle.route_cache.specs.inside.Tables.{GoesOn, IsBegun, run_up_to};
 ghost use Rattle.route_cache.specs.Marks.{place_along};
 
 use problem_data::{Leg, ProblemData, VehicleType, Visit};

@@ -3,7 +3,7 @@ ghost use Rattle.std.specs.Prelude.{◌+◌, ◌*◌, IfOk, length};
 ghost use Rattle.problem_data.specs.Reads.{RoseAtMost};
 ghost use Rattle.problem_data.specs.Valid.{IsValid, IsValidType};
 ghost use Rattle.routing_model.specs.Listed.{IsListed};
-ghost use Rattle.route_cache.specs.Inside.Kept.{IsKept};
+ghost use Rattle.route_cache.specs.inside.Kept.{IsKept};
 
 use crate::backward::passed_backward;
 use crate::forward::passed_forward;

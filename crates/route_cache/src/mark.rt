@@ -7,7 +7,7 @@ ghost use Rattle.routing_model.specs.Cost.{distance};
 ghost use Rattle.routing_model.specs.Lawful.{names_place};
 ghost use Rattle.routing_model.specs.Listed.{IsListed};
 ghost use Rattle.trips.specs.RunSegments.{HoldsRun, run_before};
-ghost use Rattle.route_cache.specs.Inside.Shapes.{reload_of};
+ghost use Rattle.route_cache.specs.inside.Shapes.{reload_of};
 ghost use Rattle.route_cache.specs.Marks.{IsMark, deliveries_of, leg_over, leg_to, pickups_of, place_along};
 
 use problem_data::{ProblemData, VehicleType, Visit};

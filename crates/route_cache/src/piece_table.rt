@@ -1,7 +1,7 @@
 //! Tables of pieces: what a route keeps of its beginnings, or of its endings.
 ghost use Rattle.std.specs.Prelude.{◌≡◌, ◌<◌, ◌++◌, [], ◌∷◌, IfOk, OnOk, length, slice_index_or};
-ghost use Rattle.trips.specs.declared.pieces.Piece.{Piece};
-ghost use Rattle.route_cache.specs.Inside.Shapes.{back, front, grown_middles, grown_outer, head_of, middle_of, no_trip, shaped, tail_of};
+ghost use Rattle.trips.specs.declared.piece.Piece.{Piece};
+ghost use Rattle.route_cache.specs.inside.Shapes.{back, front, grown_middles, grown_outer, head_of, middle_of, no_trip, shaped, tail_of};
 
 use problem_data::{NoMemory, Visit};
 use segments::{DurationSegment, Segment};

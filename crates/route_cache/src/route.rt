@@ -10,10 +10,10 @@ ghost use Rattle.trips.specs.Conditions.{IsSoundRoute};
 ghost use Rattle.trips.specs.RunSegments.{prizes_of, run_before, run_from};
 ghost use Rattle.trips.specs.Spans.{spans_from, trips_in};
 ghost use Rattle.trips.specs.Standing.{StandsForRoute};
-ghost use Rattle.route_cache.specs.Inside.Kept.{IsRoute};
-ghost use Rattle.route_cache.specs.Inside.Lookups.{IsPart, IsPartLength, run_along};
-ghost use Rattle.route_cache.specs.Inside.Passes.{IsMarked};
-ghost use Rattle.route_cache.specs.Inside.Tables.{TripsHold, run_up_to};
+ghost use Rattle.route_cache.specs.inside.Kept.{IsRoute};
+ghost use Rattle.route_cache.specs.inside.Lookups.{IsPart, IsPartLength, run_along};
+ghost use Rattle.route_cache.specs.inside.Passes.{IsMarked};
+ghost use Rattle.route_cache.specs.inside.Tables.{TripsHold, run_up_to};
 ghost use Rattle.route_cache.specs.Marks.{AreMarks};
 
 use crate::growing::grown_behind;
@@ -39,7 +39,7 @@ impl<'d> Model for Route<'d> {
     ghost use Rattle.std.specs.Prelude.{};
     ghost use Rattle.routing_model.specs.Listed.{type_of_vehicle};
     ghost use Rattle.route_cache.specs.Routes.{RouteState};
-    ghost use Rattle.route_cache.specs.Inside.Kept.{IsKept, IsRoute};
+    ghost use Rattle.route_cache.specs.inside.Kept.{IsKept, IsRoute};
 
     ghost Value = { RouteState };
 

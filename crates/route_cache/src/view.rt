@@ -8,7 +8,7 @@ ghost use Rattle.routing_model.specs.Lawful.{names_place};
 ghost use Rattle.segments.specs.Totals.{IsTotal, largest_total};
 ghost use Rattle.trips.specs.Conditions.{IsSoundTrips};
 ghost use Rattle.trips.specs.RunSegments.{HoldsVisit, prizes_of};
-ghost use Rattle.route_cache.specs.Inside.Lookups.{IsAlone};
+ghost use Rattle.route_cache.specs.inside.Lookups.{IsAlone};
 ghost use Rattle.route_cache.specs.Routes.{lent};
 ghost use Rattle.route_cache.specs.Views.{IsDistanceOfView, StandsForView};
 
@@ -34,7 +34,7 @@ pub struct View<'r> {
 impl<'r> Model for View<'r> {
     ghost use Rattle.std.specs.Option.{option_map};
     ghost use Rattle.route_cache.specs.Routes.{ViewState};
-    ghost use Rattle.route_cache.specs.Inside.Lookups.{IsView};
+    ghost use Rattle.route_cache.specs.inside.Lookups.{IsView};
 
     ghost Value = { ViewState };
 

@@ -70,5 +70,5 @@ all-can front second sound_front sound_second stands_front stands_second =
 pub whole-closes : (front second all : TripSegment) → IsSoundTrips all → JoinsRuns front second (pos 5) 10 all →
     StandsForRun two_trips one_vehicle front (run (Client 1 ∷ Reload 0 ∷ [])) → StandsForRun two_trips one_vehicle second rest → CanClose all 10
 whole-closes front second all sound joins stands_front stands_second =
-    whole-can two_trips one_vehicle listed all sound (record { is_run = is_run (whole listed) named-3; few_stops = lit≤ tt })
+    whole-can two_trips one_vehicle listed all sound (record { is_run = is_run (whole listed) named-3; few = lit≤ tt })
     (joins two_trips one_vehicle (run (Client 1 ∷ Reload 0 ∷ [])) rest refl (record { goes_on = refl; begun = refl }) (is_run (whole listed) named-3) refl stands_front stands_second)

@@ -1,3 +1,4 @@
+//! Laws of the definitions, as contracts of calls that do nothing.
 ghost use Rattle.routing_model.specs.Laws.{BestDriveIsBest, BestDriveIsUnique, BestStaysFeasible, FeasibleCostsTheSame, FirstStartHasLeastWarp, LawfulIsTested, TidiedIsTidy, TidiedStays, TidyStays, UnusedCostsNothing};
 
 /// The best drive is one of the drives, with the least warp of all and the least duration among those.
@@ -23,6 +24,7 @@ pub fn lawful_plans_are_tested()
     ensures { LawfulIsTested }
 {}
 
+/// A vehicle whose list has no client costs nothing.
 pub fn unused_vehicle_costs_nothing()
     ensures { UnusedCostsNothing }
 {}

@@ -1,8 +1,8 @@
 -- Records are one that have the same numbers.
 use Rattle.std.proofs.Common.{◌≡◌}
-use Rattle.segments.specs.declared.durations.Drive.{Drive}
-use Rattle.segments.specs.declared.durations.DurationSegment.{DurationSegment}
-use Rattle.segments.specs.declared.loads.LoadSegment.{LoadSegment}
+use Rattle.segments.specs.declared.duration_segment.Drive.{Drive}
+use Rattle.segments.specs.declared.duration_segment.DurationSegment.{DurationSegment}
+use Rattle.segments.specs.declared.load_segment.LoadSegment.{LoadSegment}
 
 pub same_drive : (a b : Drive) → a.duration ≡ b.duration → a.warp ≡ b.warp → a ≡ b
 same_drive a b d w = λ i. record { duration = d i; warp = w i }

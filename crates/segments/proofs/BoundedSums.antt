@@ -2,7 +2,8 @@
 use Rattle.std.proofs.Common.{◌≡◌, arith, w64, FitsSigned, to_z, of_z}
 use Rattle.std.specs.Prelude.{ℤ, ◌+ℤ◌, ◌-ℤ◌}
 use Rattle.std.proofs.lemmas.Int.{ints}
-use Rattle.segments.specs.Totals.{IsJoint, IsNear, IsShift, IsTotal}
+use Rattle.segments.specs.Totals.{IsJoint, IsTotal}
+use Rattle.segments.specs.inside.Moments.{IsNear, IsShift}
 
 -- as the code has it between two steps
 abbrev pub kept : ℤ → ℤ

@@ -5,3 +5,4 @@ pub mod Walking
 pub mod Starts
 pub mod Standing
 pub mod BoundedSums
+pub mod Bounds

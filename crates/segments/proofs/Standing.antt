@@ -8,8 +8,8 @@ use Rattle.routing_model.proofs.BestDrive.{best_drive-unique}
 use Rattle.routing_model.proofs.Walks.{started, walked-time}
 use Rattle.segment_model.specs.Span.{latest_moment}
 use Rattle.segment_model.proofs.SpanLaws.{merged_span-in_order}
-use Rattle.segments.specs.declared.durations.Drive.{Drive}
-use Rattle.segments.specs.declared.durations.DurationSegment.{DurationSegment}
+use Rattle.segments.specs.declared.duration_segment.Drive.{Drive}
+use Rattle.segments.specs.declared.duration_segment.DurationSegment.{DurationSegment}
 use Rattle.segments.specs.Duration.{IsDriveOf, IsHeld, IsInReach, IsLeastDurationOf, IsLeastWarpOf, IsSoundDuration, IsWithinDuration, Joins, Releases, Stands, at_start_of, merged_duration, released_from, span_of}
 use Rattle.segments.specs.Totals.{IsJoint, latest_release}
 use Rattle.segments.proofs.Starts.{Takes, end-bound, latest_has_passed, natural, takes-least_duration, takes-least_warp, takes_at_earliest, takes_both, takes_later, takes_released}

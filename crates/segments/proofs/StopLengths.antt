@@ -3,7 +3,7 @@ use Rattle.std.proofs.Common.{◌≡◌, ℕ, ◌+◌, List, [], ◌∷◌, ◌+
 use Rattle.std.specs.Prelude.{ℤ, pos, ◌+ℤ◌}
 use Rattle.routing_model.specs.Clock.{Stop, joint}
 use Rattle.routing_model.specs.Cost.{length_of}
-use Rattle.segments.specs.declared.distances.DistanceSegment.{DistanceSegment}
+use Rattle.segments.specs.declared.distance_segment.DistanceSegment.{DistanceSegment}
 use Rattle.segments.specs.Distance.{JoinsLengths, merged_distance}
 
 append_nothing : (xs : List Stop) → xs ++ [] ≡ xs

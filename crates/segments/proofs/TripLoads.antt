@@ -7,13 +7,13 @@ use Rattle.std.proofs.lemmas.List.Sums.{sum_by-cons, sum_by-append}
 use Rattle.problem_data.specs.declared.problem.Problem.{Problem}
 use Rattle.problem_data.specs.Places.{client_at}
 use Rattle.routing_model.specs.Load.{largest_load, trip_load}
-use Rattle.segments.specs.declared.loads.LoadSegment.{LoadSegment}
+use Rattle.segments.specs.declared.load_segment.LoadSegment.{LoadSegment}
 use Rattle.segments.specs.Load.{IsSoundLoad, IsWithinLoad, JoinsLoads, merged_load}
 
-abbrev deliveries : Problem → List ℕ → ℕ
+abbrev pub deliveries : Problem → List ℕ → ℕ
 deliveries p clients = sum_by (λ place. (client_at p place).delivery) clients
 
-abbrev pickups : Problem → List ℕ → ℕ
+abbrev pub pickups : Problem → List ℕ → ℕ
 pickups p clients = sum_by (λ place. (client_at p place).pickup) clients
 
 -- what else is on board all the way adds to the load
@@ -31,7 +31,7 @@ largest_load-more p (place ∷ rest) more =
     omega arith
 
 -- the load of one client and those behind
-trip_load-cons : (p : Problem) (place : ℕ) (rest : List ℕ) →
+pub trip_load-cons : (p : Problem) (place : ℕ) (rest : List ℕ) →
     trip_load p (place ∷ rest) ≡ max ((client_at p place).delivery + deliveries p rest) (trip_load p rest + (client_at p place).pickup)
 trip_load-cons p place rest =
     let client = client_at p place in
@@ -42,7 +42,7 @@ trip_load-cons p place rest =
     omega arith
 
 -- all deliveries are on board at the departure
-deliveries-carried : (p : Problem) (clients : List ℕ) → deliveries p clients ≤ trip_load p clients
+pub deliveries-carried : (p : Problem) (clients : List ℕ) → deliveries p clients ≤ trip_load p clients
 deliveries-carried p [] = omega arith
 deliveries-carried p (place ∷ rest) = omega arith
 

@@ -2,7 +2,7 @@
 use Rattle.std.specs.Prelude.{◌≡◌, ℕ, ℤ, pos, ◌+ℤ◌, ◌≤ℤ◌, List, [], ◌∷◌, ◌++◌}
 use Rattle.routing_model.specs.Clock.{Stop, joint}
 use Rattle.routing_model.specs.Cost.{length_of}
-use Rattle.segments.specs.declared.distances.DistanceSegment.{DistanceSegment}
+use Rattle.segments.specs.declared.distance_segment.DistanceSegment.{DistanceSegment}
 use Rattle.segments.specs.Totals.{IsTotal, largest_total}
 
 -- its number is in range

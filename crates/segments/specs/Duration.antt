@@ -2,8 +2,8 @@
 use Rattle.std.specs.Prelude.{◌≡◌, ℕ, ◌+◌, ◌≤◌, ℤ, pos, ◌+ℤ◌, ◌-ℤ◌, ◌≤ℤ◌, List, [], ◌∷◌, ◌++◌, All}
 use Rattle.std.specs.Int.{int_max}
 use Rattle.routing_model.specs.Clock.{Stop, Drive as Walk, drive, joint, last_start, least_warp, least_duration, released_at}
-use Rattle.segments.specs.declared.durations.Drive.{Drive}
-use Rattle.segments.specs.declared.durations.DurationSegment.{DurationSegment}
+use Rattle.segments.specs.declared.duration_segment.Drive.{Drive}
+use Rattle.segments.specs.declared.duration_segment.DurationSegment.{DurationSegment}
 use Rattle.segment_model.specs.Span.{Span, duration_from, latest_moment, merged_span, no_span, warp_from}
 use Rattle.segments.specs.Totals.{IsTotal, largest_total}
 

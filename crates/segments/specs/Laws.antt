@@ -3,9 +3,9 @@ use Rattle.std.specs.Prelude.{◌≡◌, ℤ, pos}
 use Rattle.std.proofs.Common.{ap}
 use Rattle.segment_model.proofs.SpanLaws.{no_span-before, no_span-after, merged_span-assoc}
 use Rattle.segment_model.proofs.SumLaws.{sum-zero_left, sum-zero_right, sum-zeros_left, sum-zeros_right, sum-assoc, sum-assoc_joints, largest-zero_left, largest-zero_right, largest-assoc}
-use Rattle.segments.specs.declared.distances.DistanceSegment.{DistanceSegment}
-use Rattle.segments.specs.declared.durations.DurationSegment.{DurationSegment}
-use Rattle.segments.specs.declared.loads.LoadSegment.{LoadSegment}
+use Rattle.segments.specs.declared.distance_segment.DistanceSegment.{DistanceSegment}
+use Rattle.segments.specs.declared.duration_segment.DurationSegment.{DurationSegment}
+use Rattle.segments.specs.declared.load_segment.LoadSegment.{LoadSegment}
 use Rattle.segments.specs.Totals.{IsJoint}
 use Rattle.segments.specs.Distance.{IsSoundDistance, merged_distance, no_distance}
 use Rattle.segments.specs.Duration.{IsSoundDuration, merged_duration, no_duration, segment_of, span_of}

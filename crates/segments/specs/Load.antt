@@ -4,7 +4,7 @@ use Rattle.std.specs.Int.{int_max}
 use Rattle.problem_data.specs.declared.problem.Problem.{Problem}
 use Rattle.problem_data.specs.Places.{client_at}
 use Rattle.routing_model.specs.Load.{trip_load}
-use Rattle.segments.specs.declared.loads.LoadSegment.{LoadSegment}
+use Rattle.segments.specs.declared.load_segment.LoadSegment.{LoadSegment}
 use Rattle.segments.specs.Totals.{IsTotal, largest_total}
 
 -- its numbers are in range, and all deliveries are on board at one moment, and all pickups at another

@@ -1,9 +1,10 @@
 -- The numbers that segments add up.
-use Rattle.std.specs.Prelude.{ℕ, ◌*◌, ◌^◌, ℤ, pos, ◌+ℤ◌, ◌≤ℤ◌}
+use Rattle.std.specs.Prelude.{ℕ, ◌^◌, ℤ, pos, ◌≤ℤ◌}
+use Rattle.problem_data.specs.Limits.{largest, largest_leg}
 
 -- the longest leg
 abbrev pub longest_joint : ℕ
-longest_joint = 4 * 10 ^ 9
+longest_joint = largest_leg
 
 -- the most that a segment's number may add up to
 abbrev pub largest_total : ℕ
@@ -11,7 +12,7 @@ largest_total = 10 ^ 16
 
 -- the latest release
 abbrev pub latest_release : ℕ
-latest_release = 10 ^ 12
+latest_release = largest
 
 -- a leg between two segments, or 0
 pub record IsJoint (joint : ℤ) : Type 0 where
@@ -22,13 +23,3 @@ pub record IsJoint (joint : ℤ) : Type 0 where
 pub record IsTotal (total : ℤ) : Type 0 where
   pub from_0 : pos 0 ≤ℤ total
   pub to_largest : total ≤ℤ pos largest_total
-
--- from the start of a segment to the start of the next one
-pub record IsShift (shift : ℤ) : Type 0 where
-  pub back : pos 0 ≤ℤ (shift +ℤ pos largest_total)
-  pub forth : shift ≤ℤ pos (2 * largest_total)
-
--- a moment as another segment sees it, or a span between two such moments
-pub record IsNear (moment : ℤ) : Type 0 where
-  pub back : pos 0 ≤ℤ (moment +ℤ pos (2 * 10 ^ 18))
-  pub forth : moment ≤ℤ pos (2 * 10 ^ 18)

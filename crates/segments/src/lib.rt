@@ -5,14 +5,16 @@
 //! large class of vehicle routing problems with time-windows".
 #![tactic(auto)]
 
-mod distances;
-mod durations;
-mod joining;
-mod loads;
-#[cfg(test)]
-mod tests;
+mod distance_segment;
+mod duration_segment;
+mod laws;
+mod load_segment;
+mod segment;
 
-pub use distances::DistanceSegment;
-pub use durations::{Drive, DurationSegment};
-pub use joining::Segment;
-pub use loads::LoadSegment;
+pub use distance_segment::DistanceSegment;
+pub use duration_segment::{Drive, DurationSegment};
+pub use laws::{
+    durations_are_at_least_those_of_their_parts, loads_are_at_least_deliveries_and_pickups,
+};
+pub use load_segment::LoadSegment;
+pub use segment::Segment;

@@ -9,7 +9,7 @@ use Rattle.problem_data.specs.declared.problem.VehicleType.{VehicleType}
 use Rattle.problem_data.specs.declared.visit.Visit.{Visit}
 use Rattle.routing_model.specs.Routes.{Routes, is_used}
 use Rattle.vrp_texts.specs.Printed.{route_line, route_lines_from}
-use Rattle.solution_write.specs.Lines.{used_of_type}
+use Rattle.solution_write.specs.inside.Lines.{used_of_type}
 
 -- lines of vehicles after lines of others
 pub lines-append : (p : Problem) (k : ℕ) (xs ys : List (ℕ × List Visit)) →

@@ -1,25 +1,10 @@
 //! The line of one vehicle.
 ghost use Rattle.std.specs.Prelude.{◌≡◌, ◌+◌, ◌<◌, ◌++◌, OnOk, codes, decimal, flat_map, length, string_bytes};
-ghost use Rattle.routing_model.specs.Routes.{is_client, is_used};
 ghost use Rattle.vrp_texts.specs.Printed.{route_line, spaced, token, type_token};
 
 use problem_data::{Problem, Visit};
 use std::alloc::AllocError;
 use std::fmt::Write;
-
-/// Whether the visit is a client's.
-fn is_client(visit: &Visit) -> bool
-    ensures { result ≡ is_client visit.now }
-{
-    matches!(visit, Visit::Client(_))
-}
-
-/// Whether the vehicle is used: its list has a client.
-pub fn is_used(visits: &[Visit]) -> bool
-    ensures { result ≡ is_used visits.now }
-{
-    visits.iter().any(is_client)
-}
 
 /// Adds a visit, after a space: a client's place, or `|` and a depot's place.
 fn push_visit(text: &mut String, visit: Visit) -> Result<(), AllocError>

@@ -2,10 +2,10 @@
 ghost use Rattle.std.specs.Prelude.{◌≡◌, ◌+◌, ◌<◌, ◌^◌, ◌++◌, [], ◌∷◌, IfOk, OnOk, length, string_bytes};
 ghost use Rattle.problem_data.specs.Places.{vehicle_count};
 ghost use Rattle.vrp_texts.specs.Printed.{cost_line, route_lines_from, solution_text, used_by_type};
-ghost use Rattle.solution_write.specs.Lines.{used_of_type};
+ghost use Rattle.solution_write.specs.inside.Lines.{used_of_type};
 
-use crate::route::{is_used, push_route};
-use problem_data::{NoMemory, Problem, Solution, Visit, VisitList};
+use crate::route::push_route;
+use problem_data::{NoMemory, Problem, Solution, Visit, VisitList, is_used};
 use std::alloc::{AllocError, Global};
 use std::fmt::Write;
 

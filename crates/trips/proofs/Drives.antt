@@ -1,16 +1,19 @@
 -- What a drive takes at most.
-use Rattle.std.proofs.Common.{◌≡◌, ℕ, suc, ◌+◌, ◌*◌, ◌^◌, ◌≤◌, List, [], ◌∷◌, length, ap, arith}
+use Rattle.std.proofs.Common.{◌≡◌, ℕ, suc, ◌+◌, ◌*◌, ◌≤◌, List, [], ◌∷◌, length, ap, arith}
 use Rattle.std.specs.Prelude.{All, ℤ, pos, ◌+ℤ◌, ◌-ℤ◌, ◌≤ℤ◌}
 use Rattle.std.specs.Int.{int_max}
 use Rattle.std.proofs.lemmas.Int.{ints, clamps}
 use Rattle.std.proofs.lemmas.List.Elements.{All-head, All-tail}
-use Rattle.problem_data.specs.Limits.{largest, largest_leg}
-use Rattle.routing_model.specs.Clock.{Clock, Stop, drive, passed, served, turned_back, waited, walked}
+use Rattle.problem_data.specs.Limits.{largest, largest_leg, most_visits}
+use Rattle.routing_model.specs.Clock.{Clock, Stop, best_drive, drive, last_start, passed, served, turned_back, waited, walked}
+use Rattle.routing_model.specs.Clock.{Drive as Walk}
+use Rattle.routing_model.proofs.BestDrive.{best_drive-is}
 use Rattle.routing_model.proofs.Walks.{started}
-use Rattle.segments.specs.declared.durations.Drive.{Drive}
-use Rattle.segments.specs.declared.durations.DurationSegment.{DurationSegment}
+use Rattle.segments.specs.declared.duration_segment.Drive.{Drive}
+use Rattle.segments.specs.declared.duration_segment.DurationSegment.{DurationSegment}
 use Rattle.segments.specs.Duration.{IsWithinDuration, Stands}
 use Rattle.segments.specs.Totals.{largest_total}
+use Rattle.trips.specs.Laws.{most_added}
 
 -- no time of the stop is above the largest
 pub record IsTame (stop : Stop) : Type 0 where
@@ -18,10 +21,6 @@ pub record IsTame (stop : Stop) : Type 0 where
   pub early : stop.early ≤ largest
   pub late : stop.late ≤ largest
   pub service : stop.service ≤ largest
-
--- what a stop adds at most, to the duration and to the warp
-abbrev pub most_added : ℕ
-most_added = 3 * 10 ^ 12
 
 -- the clock behind a stop and a leg
 pub record IsBehind (before after : Clock) : Type 0 where
@@ -55,12 +54,28 @@ walk-slow leg (x ∷ y ∷ rest) c short tame in_time =
     both : (n : ℕ) (a b c : Clock) → IsBehind a b → IsSlow n b c → IsSlow (suc n) a c
     both n a b c h k = let d = h.duration in let e = k.duration in let v = h.warp in let w = k.warp in record { duration = omega arith; warp = omega arith }
 
--- the most stops that are driven within the range
-abbrev pub many : ℕ
-many = 3120
+-- what the best drive takes at most
+pub record IsSlowDrive (n : ℕ) (best : Walk) : Type 0 where
+  pub duration : best.duration ≤ n * most_added
+  pub warp : best.warp ≤ n * most_added
+
+pub best_drive-slow : (leg : ℕ → ℕ → ℕ) (stops : List Stop) → ((from to : ℕ) → leg from to ≤ largest_leg) → All IsTame stops → IsSlowDrive (length stops) (best_drive leg stops)
+best_drive-slow leg stops short tame =
+    let best = best_drive-is leg stops in
+    let slow = walk-slow leg stops (started best.start) short tame (let h : best.start ≤ last_start = best.in_time in omega arith) in
+    let duration : (drive leg stops best.start).duration ≡ (best_drive leg stops).duration = ap (λ (d : Walk). d.duration) best.driven in
+    let warp : (drive leg stops best.start).warp ≡ (best_drive leg stops).warp = ap (λ (d : Walk). d.warp) best.driven in
+    least (drive leg stops best.start) (best_drive leg stops) (length stops) duration warp slow.duration slow.warp
+  where
+    least : (some best : Walk) (n : ℕ) → some.duration ≡ best.duration → some.warp ≡ best.warp → some.duration ≤ 0 + n * most_added → some.warp ≤ 0 + n * most_added → IsSlowDrive n best
+    least some best n d w h k = record { duration = omega arith; warp = omega arith }
+
+-- the most stops of a run: two for each visit, the start and the end
+abbrev pub most_stops : ℕ
+most_stops = 2 * most_visits + 2
 
 -- a segment that stands for so many tame stops is within the range
-pub drive-within : (leg : ℕ → ℕ → ℕ) (segment : DurationSegment) (stops : List Stop) → ((from to : ℕ) → leg from to ≤ largest_leg) → All IsTame stops → length stops ≤ many →
+pub drive-within : (leg : ℕ → ℕ → ℕ) (segment : DurationSegment) (stops : List Stop) → ((from to : ℕ) → leg from to ≤ largest_leg) → All IsTame stops → length stops ≤ most_stops →
     Stands leg segment stops → IsWithinDuration segment
 drive-within leg segment stops short tame few stands =
     let slow = walk-slow leg stops (started 0) short tame (omega arith) in
@@ -70,5 +85,5 @@ drive-within leg segment stops short tame few stands =
       warp = least segment.warp (pos 0 -ℤ segment.latest) (drive leg stops 0).warp (length stops) (ap (λ (d : Drive). d.warp) at_0) slow.warp few;
     }
   where
-    least : (total more : ℤ) (n k : ℕ) → total +ℤ int_max more (pos 0) ≡ pos n → n ≤ 0 + k * most_added → k ≤ many → total ≤ℤ pos largest_total
+    least : (total more : ℤ) (n k : ℕ) → total +ℤ int_max more (pos 0) ≡ pos n → n ≤ 0 + k * most_added → k ≤ most_stops → total ≤ℤ pos largest_total
     least total more n k e h few = omega (arith, ints, clamps)

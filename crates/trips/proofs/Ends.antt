@@ -6,11 +6,12 @@ use Rattle.problem_data.specs.declared.problem.Window.{Window}
 use Rattle.problem_data.specs.Places.{depot_at, leg_duration}
 use Rattle.routing_model.specs.Stops.{met, stop_at}
 use Rattle.segments.specs.Duration.{StandsForNothing}
-use Rattle.trips.specs.declared.pieces.Piece.{Piece}
-use Rattle.trips.specs.declared.pieces.Middle.{Middle}
+use Rattle.trips.specs.declared.piece.Piece.{Piece}
+use Rattle.trips.specs.declared.middle.Middle.{Middle}
 use Rattle.trips.specs.declared.trip_segment.TripSegment.TheVariants.{Open, Split}
 use Rattle.trips.specs.Runs.{Stretch}
-use Rattle.trips.specs.Standing.{StandsAtDepot, StandsForEnd, StandsForReload, StandsForStart, StandsForStretch}
+use Rattle.trips.specs.inside.DepotStops.{StandsAtDepot}
+use Rattle.trips.specs.Standing.{StandsForEnd, StandsForReload, StandsForStart, StandsForStretch}
 
 -- a stretch of one stop at a depot
 abbrev alone : ℕ → Window → ℕ → Stretch

@@ -6,8 +6,8 @@ use Rattle.problem_data.specs.declared.problem.VehicleType.{VehicleType}
 use Rattle.problem_data.specs.Places.{leg_duration}
 use Rattle.routing_model.specs.Clock.{joint}
 use Rattle.segments.specs.Totals.{IsJoint}
-use Rattle.trips.specs.declared.pieces.Piece.{Piece}
-use Rattle.trips.specs.declared.pieces.Middle.{Middle}
+use Rattle.trips.specs.declared.piece.Piece.{Piece}
+use Rattle.trips.specs.declared.middle.Middle.{Middle}
 use Rattle.trips.specs.declared.trip_segment.TripSegment.TheVariants.{Open, Split}
 use Rattle.trips.specs.Conditions.{CanMergeBetween, IsSoundSplit}
 use Rattle.trips.specs.Laws.{IsInRange, RunsCanBeMerged, WholeRunsCanBeClosed}
@@ -32,7 +32,7 @@ travel-in_range p t x y h =
 
 -- the stretches of both runs are few, and hand over
 few-both : (p : Problem) (t : VehicleType) (x y : Run) (xs : List Stretch) → IsInRange p t (followed_by x y) → stretches p t (followed_by x y) ≡ xs → IsFew xs
-few-both p t x y xs h e = subst IsFew e (few-run p t (followed_by x y) h.is_run h.few_stops)
+few-both p t x y xs h e = subst IsFew e (few-run p t (followed_by x y) h.is_run h.few)
 
 -- reloads on both sides
 between-can : (p : Problem) (t : VehicleType) (x y : Run) (head : Piece) (before : Middle) (tail next : Piece) (behind : Middle) (last : Piece) →
@@ -118,14 +118,14 @@ runs-can p t x y (Split head before tail) (Split next behind last) sound_left so
 -- the segment of a whole list can be closed
 pub whole-can : WholeRunsCanBeClosed
 whole-can p t visits (Open piece) sound in_range stands =
-    let few = subst IsFew stands.uncut (few-run p t (whole visits) in_range.is_run in_range.few_stops) in
+    let few = subst IsFew stands.uncut (few-run p t (whole visits) in_range.is_run in_range.few) in
     piece-can_close p t piece stands.only t.start in_range.is_run.valid in_range.is_run.allowed sound few (whole-begins p t visits stands.only [] stands.uncut) stands.stands
 whole-can p t visits (Split head middle tail) sound in_range stands =
     let leg = leg_duration p t.profile in
     let valid = in_range.is_run.valid in
     let allowed = in_range.is_run.allowed in
     let back = stands.between ++ stands.last ∷ [] in
-    let few : IsFew (stands.first ∷ back) = subst IsFew stands.cut (few-run p t (whole visits) in_range.is_run in_range.few_stops) in
+    let few : IsFew (stands.first ∷ back) = subst IsFew stands.cut (few-run p t (whole visits) in_range.is_run in_range.few) in
     let all : Rests leg (stands.first ∷ back) = subst (Rests leg) stands.cut (rests-run p t (whole visits) in_range.is_run) in
     let front : Rests leg (stands.first ∷ stands.between) = rests-front leg (stands.first ∷ stands.between) (stands.last ∷ []) all in
     let departs = begins leg stands.first stands.between stands.last [] all in

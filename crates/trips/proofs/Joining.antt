@@ -12,12 +12,12 @@ use Rattle.problem_data.specs.Places.{leg_duration}
 use Rattle.routing_model.specs.Clock.{Stop, joint, released_at}
 use Rattle.routing_model.specs.Load.{trip_load}
 use Rattle.segment_model.specs.Span.{latest_moment}
-use Rattle.segments.specs.declared.durations.DurationSegment.{DurationSegment}
+use Rattle.segments.specs.declared.duration_segment.DurationSegment.{DurationSegment}
 use Rattle.segments.specs.Duration.{Stands, merged_duration, released_from}
 use Rattle.segments.proofs.Standing.{merged-joins, released-releases}
 use Rattle.segments.proofs.TripLoads.{merged-joins_loads}
-use Rattle.trips.specs.declared.pieces.Piece.{Piece}
-use Rattle.trips.specs.declared.pieces.Middle.{Middle}
+use Rattle.trips.specs.declared.piece.Piece.{Piece}
+use Rattle.trips.specs.declared.middle.Middle.{Middle}
 use Rattle.trips.specs.Conditions.{IsSoundMiddle, IsSoundPiece}
 use Rattle.trips.specs.Merging.{closed_piece, merged_middle, merged_piece}
 use Rattle.trips.specs.Runs.{Stretch, largest_release, trip_excess, trip_stops}

@@ -11,9 +11,12 @@ pub mod Drives
 pub mod Sizes
 pub mod Within
 pub mod InRange
-pub mod TwoTrips
 pub mod RunPlaces
 pub mod RunCounts
 pub mod RunJoins
 pub mod RunVisits
 pub mod RunSteps
+pub mod WholeDrives
+pub mod TidyJoints
+pub mod Bounds
+pub mod RunEnds

@@ -4,7 +4,7 @@ use Rattle.std.specs.Prelude.{ℤ, pos, ◌≤ℤ◌}
 use Rattle.std.proofs.lemmas.Int.{ints}
 use Rattle.problem_data.specs.declared.problem.Problem.{Problem}
 use Rattle.problem_data.specs.declared.problem.VehicleType.{VehicleType}
-use Rattle.problem_data.specs.Limits.{largest, largest_leg}
+use Rattle.problem_data.specs.Limits.{largest, largest_leg, most_visits}
 use Rattle.problem_data.specs.Places.{leg_distance, leg_duration}
 use Rattle.routing_model.specs.Clock.{joint}
 use Rattle.routing_model.specs.Cost.{length_of}
@@ -12,11 +12,13 @@ use Rattle.segments.specs.Distance.{IsSoundDistance, IsWithinDistance, JoinsLeng
 use Rattle.segments.specs.Totals.{IsJoint, largest_total}
 use Rattle.segments.proofs.StopLengths.{merged-joins_lengths}
 use Rattle.trips.specs.Conditions.{CanMerge, IsSoundTrips}
-use Rattle.trips.specs.Laws.{IsInRange, most_stops}
+use Rattle.trips.specs.Laws.{IsInRange}
 use Rattle.trips.specs.Runs.{Run, followed_by, run_stops}
 use Rattle.trips.specs.Standing.{JoinsRuns}
 use Rattle.trips.proofs.InRange.{runs-can}
 use Rattle.trips.proofs.Quantities.{distance-short}
+use Rattle.trips.proofs.Drives.{most_stops}
+use Rattle.trips.proofs.Sizes.{length-run}
 use Rattle.trips.proofs.Within.{joint-in_range}
 use Rattle.trips.specs.declared.run_segment.RunSegment.{RunSegment}
 use Rattle.trips.specs.RunSegments.{CanMergeRunSegments, FitTogether, JoinsAt, JoinsRunSegments, prizes_of}
@@ -44,7 +46,8 @@ run_segments-joined left right both distance duration capacity sound joins sound
 pub length-run_in_range : (p : Problem) (t : VehicleType) (run : Run) → IsInRange p t run → length_of (leg_distance p t.profile) (run_stops p t run) ≤ most_stops * largest_leg
 length-run_in_range p t run h =
     let a = length-bound (leg_distance p t.profile) (run_stops p t run) (λ from to. distance-short p t from to h.is_run.valid h.is_run.allowed) in
-    omega (arith, h.few_stops)
+    let b = length-run p t run in
+    omega (arith, h.few)
 
 -- segments that fit together can be merged over the leg between them
 pub fit-can : (p : Problem) (t : VehicleType) (segment : RunSegment) (last : ℕ) (next : RunSegment) (first : ℕ) → FitTogether p t segment last next first →
@@ -75,7 +78,7 @@ fit-can p t segment last next first fit =
     short : (total : ℤ) (n m : ℕ) → total ≡ pos n → n ≡ m → m ≤ most_stops * largest_leg → total ≤ℤ pos largest_total
     short total n m e f h = omega (arith, ints)
 
-    added : (a b c d e : ℕ) → a ≡ c → b ≡ d → e ≡ c + d → e ≤ most_stops * largest → a + b ≤ largest_total
+    added : (a b c d e : ℕ) → a ≡ c → b ≡ d → e ≡ c + d → e ≤ most_visits * largest → a + b ≤ largest_total
     added a b c d e h k f bound = omega arith
 
 -- segments that are merged over the leg between two runs hold both

@@ -12,7 +12,8 @@ use Rattle.routing_model.specs.Cost.{length_of}
 use Rattle.routing_model.specs.Stops.{stop_at, trip_release, visit_stops}
 use Rattle.trips.specs.Runs.{Run, Follows, client_stop, departure_stop, followed_by, run_stops, start_stop, stops_before, stops_behind}
 use Rattle.trips.proofs.Places.{last_of, last_of-append}
-use Rattle.trips.specs.RunSegments.{Leaves, Reaches, alone, end_alone, place_behind, start_alone}
+use Rattle.trips.specs.inside.LastPlaces.{place_behind}
+use Rattle.trips.specs.RunSegments.{Leaves, Reaches, alone, end_alone, start_alone}
 use Rattle.problem_data.specs.Visits.{place_of}
 
 -- the places of some stops

@@ -24,7 +24,8 @@ use Rattle.trips.specs.declared.run_segment.RunSegment.{RunSegment}
 use Rattle.trips.specs.declared.whole_route.WholeRoute.{WholeRoute}
 use Rattle.trips.specs.WholeRoutes.{IsWhole}
 use Rattle.routing_model.specs.Listed.{IsListed}
-use Rattle.trips.specs.RunSegments.{FitTogether, HoldsRun, HoldsVisit, JoinsAt, Leaves, Reaches, alone, end_alone, place_behind, run_before, run_from}
+use Rattle.trips.specs.inside.LastPlaces.{place_behind}
+use Rattle.trips.specs.RunSegments.{FitTogether, HoldsRun, HoldsVisit, JoinsAt, Leaves, Reaches, alone, end_alone, run_before, run_from}
 use Rattle.problem_data.specs.Visits.{place_of}
 use Rattle.trips.proofs.RunCounts.{named-listed, run-in_range}
 use Rattle.trips.proofs.RunPlaces.{leaves-all, leaves-longer, reaches-alone, reaches-end, reaches-longer, leaves-alone, same_length}

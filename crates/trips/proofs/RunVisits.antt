@@ -10,7 +10,7 @@ use Rattle.problem_data.specs.declared.visit.Visit.TheVariants.{Reload}
 use Rattle.problem_data.specs.Places.{depot_at, depot_count, is_depot_place, leg_distance}
 use Rattle.problem_data.specs.Valid.{IsValid, IsValidType}
 use Rattle.segments.specs.Distance.{IsSoundDistance, no_distance}
-use Rattle.segments.specs.declared.distances.DistanceSegment.{DistanceSegment}
+use Rattle.segments.specs.declared.distance_segment.DistanceSegment.{DistanceSegment}
 use Rattle.trips.specs.declared.run_segment.RunSegment.{RunSegment}
 use Rattle.trips.specs.declared.trip_segment.TripSegment.{TripSegment}
 use Rattle.trips.specs.Conditions.{IsSoundTrips}

@@ -4,7 +4,7 @@ use Rattle.std.proofs.lemmas.List.{append-nil}
 use Rattle.problem_data.specs.declared.visit.Visit.{Visit}
 use Rattle.problem_data.specs.declared.visit.Visit.TheVariants.{Client, Reload}
 use Rattle.routing_model.specs.Load.{first_trip, later_trips}
-use Rattle.trips.specs.declared.spans.Trip.{Trip}
+use Rattle.trips.specs.declared.trip.Trip.{Trip}
 use Rattle.trips.specs.Spans.{spans_from, trips_in, trip_visits, visits_of}
 
 abbrev pub trip : ℕ → ℕ → Trip

@@ -1,34 +1,34 @@
 -- Pieces and trips that stand for few modest stretches are within the range.
-use Rattle.std.proofs.Common.{◌≡◌, ℕ, ◌+◌, ◌-◌, ◌*◌, ◌≤◌, List, [], ◌∷◌, ◌++◌, length, refl, arith, sum_by, flat_map, Some}
-use Rattle.std.specs.Prelude.{All, ℤ, pos, ◌≤ℤ◌}
+use Rattle.std.proofs.Common.{◌≡◌, ℕ, ◌+◌, ◌-◌, ◌*◌, ◌≤◌, List, [], ◌∷◌, ◌++◌, length, refl, arith, subst, sum_by, flat_map, Some}
+use Rattle.std.specs.Prelude.{ℤ, pos, ◌≤ℤ◌}
 use Rattle.std.proofs.lemmas.Int.{ints, clamps}
-use Rattle.std.proofs.lemmas.List.Elements.{All-head, All-tail}
+use Rattle.std.proofs.lemmas.List.Elements.{All-head}
 use Rattle.std.proofs.lemmas.List.Sums.{sum_by-cons}
 use Rattle.problem_data.specs.declared.problem.Problem.{Problem}
 use Rattle.problem_data.specs.declared.problem.VehicleType.{VehicleType}
-use Rattle.problem_data.specs.Limits.{largest, largest_leg}
+use Rattle.problem_data.specs.Limits.{largest, largest_leg, most_visits}
 use Rattle.problem_data.specs.Places.{client_at, leg_duration}
 use Rattle.problem_data.specs.Valid.{IsValid, IsValidType}
 use Rattle.routing_model.specs.Clock.{Stop, joint, last_place}
 use Rattle.routing_model.specs.Load.{largest_load, trip_load}
-use Rattle.segments.specs.declared.loads.LoadSegment.{LoadSegment}
+use Rattle.segments.specs.declared.load_segment.LoadSegment.{LoadSegment}
 use Rattle.segments.specs.Duration.{IsWithinDuration}
 use Rattle.segments.specs.Load.{IsWithinLoad, StandsForLoad}
 use Rattle.segments.specs.Totals.{IsJoint, largest_total}
 use Rattle.segments.proofs.Standing.{merged-sound, released-sound}
 use Rattle.segments.proofs.TripLoads.{merged-sound_load}
-use Rattle.trips.specs.declared.pieces.Piece.{Piece}
-use Rattle.trips.specs.declared.pieces.Middle.{Middle}
+use Rattle.trips.specs.declared.piece.Piece.{Piece}
+use Rattle.trips.specs.declared.middle.Middle.{Middle}
 use Rattle.trips.specs.Conditions.{CanClosePiece, CanMergeMiddles, CanMergePieces, IsSoundMiddle, IsSoundPiece}
 use Rattle.trips.specs.Merging.{closed_piece, merged_middle, merged_piece}
 use Rattle.trips.specs.Runs.{Stretch, trip_excess, trip_stops}
 use Rattle.trips.specs.Standing.{StandsForStretch, StandsForTrips}
-use Rattle.trips.proofs.Drives.{drive-within, many}
+use Rattle.trips.proofs.Drives.{drive-within}
 use Rattle.trips.proofs.Joining.{middles-joined, piece-closed, pieces-joined}
 use Rattle.trips.proofs.Places.{first_of}
 use Rattle.trips.proofs.Quantities.{duration-short, valid_client_at}
 use Rattle.trips.proofs.Rests.{Rests}
-use Rattle.trips.proofs.Sizes.{IsFew, IsModest, stop_count, trips-count, trips-tame}
+use Rattle.trips.proofs.Sizes.{IsFew, IsModest, client_count, trips-count, trips-tame}
 use Rattle.trips.proofs.Stretches.{joined}
 
 -- what sound parts make is sound
@@ -52,14 +52,6 @@ merged_middle-sound left right can = record {
   excess = let h = can.sound_left.excess.from_0 in let k = can.sound_right.excess.from_0 in record { from_0 = omega (arith, ints); to_largest = can.excess };
 }
 
--- the load of some clients is at most what is on board, and their pickups
-load-bound : (p : Problem) (clients : List ℕ) (on_board : ℕ) → IsValid p → largest_load p clients on_board ≤ on_board + length clients * largest
-load-bound p [] on_board valid = omega arith
-load-bound p (place ∷ clients) on_board valid =
-    let c = valid_client_at p place valid in
-    let rest = load-bound p clients (on_board - (client_at p place).delivery + (client_at p place).pickup) valid in
-    omega (arith, c.pickup)
-
 deliveries-bound : (p : Problem) (clients : List ℕ) → IsValid p → sum_by (λ place. (client_at p place).delivery) clients ≤ length clients * largest
 deliveries-bound p [] valid = omega arith
 deliveries-bound p (place ∷ clients) valid =
@@ -76,52 +68,57 @@ pickups-bound p (place ∷ clients) valid =
     let e = sum_by-cons (λ (place : ℕ). (client_at p place).pickup) place clients in
     omega (arith, c.pickup)
 
-trip_load-bound : (p : Problem) (clients : List ℕ) → IsValid p → trip_load p clients ≤ length clients * (2 * largest)
+-- each client counts once: its delivery is on board before it, and its pickup behind it
+load-bound : (p : Problem) (clients : List ℕ) (more : ℕ) → IsValid p →
+    largest_load p clients (more + sum_by (λ place. (client_at p place).delivery) clients) ≤ more + length clients * largest
+load-bound p [] more valid = omega arith
+load-bound p (place ∷ clients) more valid =
+    let c = valid_client_at p place valid in
+    let pickup = (client_at p place).pickup in
+    let delivery = (client_at p place).delivery in
+    let on_board = more + sum_by (λ place. (client_at p place).delivery) (place ∷ clients) in
+    let sums = sum_by-cons (λ (place : ℕ). (client_at p place).delivery) place clients in
+    let next : (more + pickup) + sum_by (λ place. (client_at p place).delivery) clients ≡ on_board - delivery + pickup = omega arith in
+    let rest : largest_load p clients (on_board - delivery + pickup) ≤ (more + pickup) + length clients * largest =
+    subst (λ (n : ℕ). largest_load p clients n ≤ (more + pickup) + length clients * largest) next (load-bound p clients (more + pickup) valid) in
+    let all = deliveries-bound p (place ∷ clients) valid in
+    omega (arith, c.pickup)
+
+pub trip_load-bound : (p : Problem) (clients : List ℕ) → IsValid p → trip_load p clients ≤ length clients * largest
 trip_load-bound p clients valid =
-    let loads = load-bound p clients (sum_by (λ place. (client_at p place).delivery) clients) valid in
-    let deliveries = deliveries-bound p clients valid in
-    omega arith
+    let deliveries = sum_by (λ place. (client_at p place).delivery) clients in
+    let same : 0 + deliveries ≡ deliveries = omega arith in
+    subst (λ (n : ℕ). largest_load p clients n ≤ length clients * largest) same (let h = load-bound p clients 0 valid in omega arith)
 
 -- the load of few clients is within the range
-load-within : (p : Problem) (segment : LoadSegment) (clients : List ℕ) → IsValid p → length clients ≤ many → StandsForLoad p segment clients → IsWithinLoad segment
-load-within p segment clients valid few h =
-    let deliveries = deliveries-bound p clients valid in
-    let pickups = pickups-bound p clients valid in
-    let loads = trip_load-bound p clients valid in
-    record {
-      delivery = within segment.delivery (sum_by (λ place. (client_at p place).delivery) clients) (length clients) h.delivery (omega arith) few;
-      pickup = within segment.pickup (sum_by (λ place. (client_at p place).pickup) clients) (length clients) h.pickup (omega arith) few;
-      load = within segment.load (trip_load p clients) (length clients) h.load loads few;
-    }
+load-within : (p : Problem) (segment : LoadSegment) (clients : List ℕ) → IsValid p → length clients ≤ most_visits → StandsForLoad p segment clients → IsWithinLoad segment
+load-within p segment clients valid few h = record {
+  delivery = within segment.delivery (sum_by (λ place. (client_at p place).delivery) clients) (length clients) h.delivery (deliveries-bound p clients valid) few;
+  pickup = within segment.pickup (sum_by (λ place. (client_at p place).pickup) clients) (length clients) h.pickup (pickups-bound p clients valid) few;
+  load = within segment.load (trip_load p clients) (length clients) h.load (trip_load-bound p clients valid) few;
+}
   where
-    within : (total : ℤ) (n k : ℕ) → total ≡ pos n → n ≤ k * (2 * largest) → k ≤ many → total ≤ℤ pos largest_total
+    within : (total : ℤ) (n k : ℕ) → total ≡ pos n → n ≤ k * largest → k ≤ most_visits → total ≤ℤ pos largest_total
     within total n k e h few = omega (arith, ints)
-
--- a stretch alone
-pub alone : (x : Stretch) (xs : List Stretch) → IsFew (x ∷ xs) → (length x.stops ≤ many) × IsModest x
-alone x xs h =
-    let e = sum_by-cons (λ (x : Stretch). length x.stops) x xs in
-    (omega (arith, h.few), All-head IsModest x xs h.modest)
 
 -- a piece that stands for a modest stretch
 pub stretch-within : (p : Problem) (t : VehicleType) (piece : Piece) (x : Stretch) (xs : List Stretch) → IsValid p → IsValidType p t → IsFew (x ∷ xs) → StandsForStretch p t piece x →
     IsWithinDuration piece.duration × IsWithinLoad piece.load
 stretch-within p t piece x xs valid allowed few h =
-    let modest = (alone x xs few).1 in
-    let stops : length x.stops ≤ many = (alone x xs few).0 in (
-      drive-within (leg_duration p t.profile) piece.duration x.stops (λ from to. duration-short p t from to valid allowed) modest.tame stops h.duration,
-      load-within p piece.load x.clients valid (omega (arith, modest.clients)) h.load,
+    let stops = sum_by-cons (λ (x : Stretch). length x.stops) x xs in
+    let clients = sum_by-cons (λ (x : Stretch). length x.clients) x xs in (
+      drive-within (leg_duration p t.profile) piece.duration x.stops (λ from to. duration-short p t from to valid allowed) (All-head IsModest x xs few.modest) (omega (arith, few.few)) h.duration,
+      load-within p piece.load x.clients valid (omega (arith, few.few_clients)) h.load,
     )
 
--- the excess of few trips
-excess-bound : (p : Problem) (t : VehicleType) (xs : List Stretch) → IsValid p → All IsModest xs → sum_by (trip_excess p t) xs ≤ stop_count xs * (2 * largest)
-excess-bound p t [] valid modest = omega arith
-excess-bound p t (x ∷ xs) valid modest =
-    let rest = excess-bound p t xs valid (All-tail IsModest x xs modest) in
-    let clients = (All-head IsModest x xs modest).clients in
+-- the excess of some trips
+pub excess-bound : (p : Problem) (t : VehicleType) (xs : List Stretch) → IsValid p → sum_by (trip_excess p t) xs ≤ client_count xs * largest
+excess-bound p t [] valid = omega arith
+excess-bound p t (x ∷ xs) valid =
+    let rest = excess-bound p t xs valid in
     let loads = trip_load-bound p x.clients valid in
     let sums = sum_by-cons (trip_excess p t) x xs in
-    let stops = sum_by-cons (λ (x : Stretch). length x.stops) x xs in
+    let clients = sum_by-cons (λ (x : Stretch). length x.clients) x xs in
     omega arith
 
 -- whole trips that stand for few modest ones
@@ -129,13 +126,13 @@ pub trips-within : (p : Problem) (t : VehicleType) (trips : Middle) (xs : List S
     IsWithinDuration trips.duration × (trips.excess ≤ℤ pos largest_total)
 trips-within p t trips xs valid allowed few h =
     let count = trips-count p xs in
-    let excess = excess-bound p t xs valid few.modest in (
+    let excess = excess-bound p t xs valid in (
       drive-within (leg_duration p t.profile) trips.duration (flat_map (trip_stops p) xs) (λ from to. duration-short p t from to valid allowed)
           (trips-tame p xs valid few.modest) (omega (arith, few.few)) h.duration,
-      within trips.excess (sum_by (trip_excess p t) xs) (stop_count xs) h.excess excess few.few,
+      within trips.excess (sum_by (trip_excess p t) xs) (client_count xs) h.excess excess few.few_clients,
     )
   where
-    within : (total : ℤ) (n k : ℕ) → total ≡ pos n → n ≤ k * (2 * largest) → k ≤ many → total ≤ℤ pos largest_total
+    within : (total : ℤ) (n k : ℕ) → total ≡ pos n → n ≤ k * largest → k ≤ most_visits → total ≤ℤ pos largest_total
     within total n k e h few = omega (arith, ints)
 
 -- a leg between two lists is in range

@@ -4,8 +4,8 @@ use Rattle.problem_data.specs.Limits.{largest}
 use Rattle.segments.specs.Duration.{IsSoundDuration, IsWithinDuration, merged_duration, released_from}
 use Rattle.segments.specs.Load.{IsSoundLoad, IsWithinLoad, merged_load}
 use Rattle.segments.specs.Totals.{IsJoint, IsTotal, largest_total, latest_release}
-use Rattle.trips.specs.declared.pieces.Piece.{Piece}
-use Rattle.trips.specs.declared.pieces.Middle.{Middle}
+use Rattle.trips.specs.declared.piece.Piece.{Piece}
+use Rattle.trips.specs.declared.middle.Middle.{Middle}
 use Rattle.trips.specs.declared.trip_segment.TripSegment.{TripSegment}
 use Rattle.trips.specs.declared.trip_segment.TripSegment.TheVariants.{Open, Split}
 use Rattle.trips.specs.declared.trip_segment.RouteSegment.{RouteSegment}

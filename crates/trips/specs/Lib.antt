@@ -1,9 +1,12 @@
+pub mod Bounds
 pub mod Conditions
 pub mod Joints
 pub mod Laws
 pub mod Merging
+pub mod RunEnds
 pub mod RunSegments
 pub mod Runs
 pub mod Spans
 pub mod Standing
 pub mod WholeRoutes
+pub mod inside

@@ -1,14 +1,42 @@
--- What merging and closing make of the numbers.
-use Rattle.std.specs.Prelude.{ℕ, ℤ, pos, ◌+ℤ◌, ◌-ℤ◌}
+-- The numbers of single stops, and what merging and closing make of them.
+use Rattle.std.specs.Prelude.{ℕ, max, ℤ, pos, ◌+ℤ◌, ◌-ℤ◌}
 use Rattle.std.specs.Int.{int_max}
-use Rattle.segments.specs.declared.loads.LoadSegment.{LoadSegment}
-use Rattle.segments.specs.Duration.{merged_duration, released_from}
-use Rattle.segments.specs.Load.{merged_load}
-use Rattle.trips.specs.declared.pieces.Piece.{Piece}
-use Rattle.trips.specs.declared.pieces.Middle.{Middle}
+use Rattle.problem_data.specs.declared.problem.Client.{Client}
+use Rattle.problem_data.specs.declared.problem.Depot.{Depot}
+use Rattle.problem_data.specs.declared.problem.Window.{Window}
+use Rattle.segments.specs.declared.duration_segment.DurationSegment.{DurationSegment}
+use Rattle.segments.specs.declared.load_segment.LoadSegment.{LoadSegment}
+use Rattle.segments.specs.Duration.{merged_duration, no_duration, released_from}
+use Rattle.segments.specs.Load.{merged_load, no_load}
+use Rattle.trips.specs.declared.piece.Piece.{Piece}
+use Rattle.trips.specs.declared.middle.Middle.{Middle}
 use Rattle.trips.specs.declared.trip_segment.TripSegment.{TripSegment}
 use Rattle.trips.specs.declared.trip_segment.TripSegment.TheVariants.{Open, Split}
 use Rattle.trips.specs.declared.trip_segment.RouteSegment.{RouteSegment}
+
+-- a stop with this window and this service: the start may be anywhere in the window
+abbrev pub stop_duration : Window → ℕ → DurationSegment
+stop_duration window service = record { duration = pos service; warp = pos 0; earliest = pos window.early; latest = pos window.late }
+
+-- a stop without a client
+abbrev pub stop_piece : Window → ℕ → Piece
+stop_piece window service = record { duration = stop_duration window service; load = no_load; release = pos 0 }
+
+-- a client alone
+abbrev pub client_piece : Client → Piece
+client_piece client = record {
+  duration = stop_duration client.window client.service;
+  load = record { delivery = pos client.delivery; pickup = pos client.pickup; load = pos (max client.delivery client.pickup) };
+  release = pos client.release;
+}
+
+-- no trip
+abbrev pub no_trip : Middle
+no_trip = record { duration = no_duration; excess = pos 0 }
+
+-- a reload alone: an arrival and a departure
+abbrev pub reload_split : Depot → TripSegment
+reload_split depot = Split (stop_piece depot.window 0) no_trip (stop_piece depot.window depot.service)
 
 -- one after the other in one trip: it waits for the later of both releases
 abbrev pub merged_piece : Piece → Piece → ℤ → Piece

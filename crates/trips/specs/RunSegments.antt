@@ -5,7 +5,6 @@ use Rattle.problem_data.specs.declared.problem.VehicleType.{VehicleType}
 use Rattle.problem_data.specs.declared.visit.Visit.{Visit}
 use Rattle.problem_data.specs.Places.{client_at, leg_distance, leg_duration}
 use Rattle.problem_data.specs.Valid.{IsValidType}
-use Rattle.problem_data.specs.Visits.{place_of}
 use Rattle.routing_model.specs.Clock.{Stop, joint, last_place}
 use Rattle.routing_model.specs.Routes.{clients_of}
 use Rattle.segments.specs.Distance.{IsSoundDistance, IsWithinDistance, StandsForLength, merged_distance}
@@ -44,11 +43,6 @@ JoinsRunSegments left right distance duration capacity both = (p : Problem) (t :
     distance ≡ joint (leg_distance p t.profile) (run_stops p t x) (run_stops p t y) →
     duration ≡ joint (leg_duration p t.profile) (run_stops p t x) (run_stops p t y) →
     HoldsRun p t left x → HoldsRun p t right y → HoldsRun p t both (followed_by x y)
-
--- the place of the last visit, or the given place where there is none
-abbrev pub place_behind : ℕ → List Visit → ℕ
-place_behind place [] = place
-place_behind place (visit ∷ rest) = place_behind (place_of visit) rest
 
 -- a visit alone
 abbrev pub alone : Visit → Run

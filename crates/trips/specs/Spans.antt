@@ -3,7 +3,7 @@ use Rattle.std.specs.Prelude.{ℕ, ◌+◌, List, [], ◌∷◌, length, map, sl
 use Rattle.problem_data.specs.declared.visit.Visit.{Visit}
 use Rattle.problem_data.specs.declared.visit.Visit.TheVariants.{Client}
 use Rattle.routing_model.specs.Load.{trips}
-use Rattle.trips.specs.declared.spans.Trip.{Trip}
+use Rattle.trips.specs.declared.trip.Trip.{Trip}
 
 -- the trips of a list; an empty list has none
 abbrev pub trips_in : List Visit → List (List ℕ)

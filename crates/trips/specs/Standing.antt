@@ -10,11 +10,11 @@ use Rattle.problem_data.specs.declared.visit.Visit.TheVariants.{Client, Reload}
 use Rattle.problem_data.specs.Places.{depot_at, client_at, leg_duration}
 use Rattle.routing_model.specs.Clock.{joint}
 use Rattle.routing_model.specs.Load.{excess_load}
-use Rattle.routing_model.specs.Stops.{met, stop_at, stops}
+use Rattle.routing_model.specs.Stops.{met, stops}
 use Rattle.segments.specs.Duration.{Stands}
 use Rattle.segments.specs.Load.{StandsForLoad}
-use Rattle.trips.specs.declared.pieces.Piece.{Piece}
-use Rattle.trips.specs.declared.pieces.Middle.{Middle}
+use Rattle.trips.specs.declared.piece.Piece.{Piece}
+use Rattle.trips.specs.declared.middle.Middle.{Middle}
 use Rattle.trips.specs.declared.trip_segment.TripSegment.{TripSegment}
 use Rattle.trips.specs.declared.trip_segment.TripSegment.TheVariants.{Open, Split}
 use Rattle.trips.specs.declared.trip_segment.RouteSegment.{RouteSegment}
@@ -46,11 +46,6 @@ pub record StandsCut (p : Problem) (t : VehicleType) (head : Piece) (middle : Mi
   pub stands_head : StandsForStretch p t head first
   pub stands_middle : StandsForTrips p t middle between
   pub stands_tail : StandsForStretch p t tail last
-
--- the piece stands for a stop at a depot alone, wherever that is
-abbrev pub StandsAtDepot : Window → ℕ → Piece → Type 0
-StandsAtDepot window service piece = (p : Problem) (t : VehicleType) (depot : ℕ) →
-    StandsForStretch p t piece (record { stops = stop_at depot 0 window service ∷ []; clients = [] })
 
 -- the segment stands for these stretches
 abbrev pub StandsForStretches : Problem → VehicleType → TripSegment → List Stretch → Type 0

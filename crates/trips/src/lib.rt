@@ -5,20 +5,24 @@
 //! PyVRP; Wouda, Lan and Kool 2024).
 #![tactic(auto)]
 
-mod joints;
+mod joint;
 mod laws;
-mod pieces;
+mod middle;
+mod piece;
 mod run_segment;
-mod spans;
-#[cfg(test)]
-mod tests;
+mod trip;
 mod trip_segment;
 mod whole_route;
 
-pub use joints::{Joint, tidy_joint};
-pub use laws::segments_of_runs_are_in_range;
-pub use pieces::{Middle, Piece};
+pub use joint::{Joint, tidy_joint};
+pub use laws::{
+    joints_name_what_is_not_tidy, routes_are_bounded_by_stops, routes_tell_their_drives,
+    runs_leave_and_reach_their_visits, segments_of_runs_are_in_range,
+    trips_take_at_least_what_their_parts_take,
+};
+pub use middle::Middle;
+pub use piece::Piece;
 pub use run_segment::RunSegment;
-pub use spans::{Trip, trips_of};
+pub use trip::{Trip, trips_of};
 pub use trip_segment::{RouteSegment, TripSegment};
 pub use whole_route::{WholeRoute, ended, whole_of};

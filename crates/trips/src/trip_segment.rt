@@ -1,11 +1,14 @@
+//! Segments of trips: what a run of a vehicle's stops adds up to, over reloads and releases.
 ghost use Rattle.std.specs.Prelude.{◌≡◌, ◌≤◌};
 ghost use Rattle.problem_data.specs.Limits.{largest};
 ghost use Rattle.problem_data.specs.Valid.{IsValidClient, IsValidDepot, IsValidWindow};
 ghost use Rattle.trips.specs.Conditions.{CanClose, CanMerge, IsSoundPiece, IsSoundRoute, IsSoundTrips};
-ghost use Rattle.trips.specs.Merging.{closed_trips, merged_trips};
-ghost use Rattle.trips.specs.Standing.{ClosesRun, JoinsRuns, StandsAtDepot, StandsForClient, StandsForEnd, StandsForReload, StandsForStart};
+ghost use Rattle.trips.specs.Merging.{client_piece, closed_trips, merged_trips, reload_split, stop_piece};
+ghost use Rattle.trips.specs.inside.DepotStops.{StandsAtDepot};
+ghost use Rattle.trips.specs.Standing.{ClosesRun, JoinsRuns, StandsForClient, StandsForEnd, StandsForReload, StandsForStart};
 
-use crate::pieces::{Middle, Piece};
+use crate::middle::Middle;
+use crate::piece::Piece;
 use problem_data::{Client, Depot, Window};
 use segments::{DurationSegment, LoadSegment, Segment};
 
@@ -38,6 +41,7 @@ impl TripSegment {
     /// The segment of a client alone. Condition: its quantities are at most 10^12, and its window opens no later than it closes.
     pub fn client(client: &Client) -> TripSegment
         requires { IsValidClient client.now }
+        ensures value { result ≡ TripSegment.Open (client_piece client.now) }
         ensures sound { IsSoundTrips result }
         ensures stands { StandsForClient client.now result }
     {
@@ -55,6 +59,7 @@ impl TripSegment {
     pub fn departure(depot: &Depot, window: Window) -> TripSegment
         requires depot { IsValidDepot depot.now }
         requires window { IsValidWindow window }
+        ensures value { result ≡ TripSegment.Open (stop_piece window depot.now.service) }
         ensures sound { IsSoundTrips result }
         ensures stands { StandsForStart depot.now window result }
     {
@@ -66,6 +71,7 @@ impl TripSegment {
     /// Condition: the window opens no later than it closes, and closes at 10^12 at the latest.
     pub fn arrival(window: Window) -> TripSegment
         requires { IsValidWindow window }
+        ensures value { result ≡ TripSegment.Open (stop_piece window 0) }
         ensures sound { IsSoundTrips result }
         ensures stands { StandsForEnd window result }
     {
@@ -76,6 +82,7 @@ impl TripSegment {
     /// opens no later than it closes.
     pub fn reload(depot: &Depot) -> TripSegment
         requires { IsValidDepot depot.now }
+        ensures value { result ≡ reload_split depot.now }
         ensures sound { IsSoundTrips result }
         ensures stands { StandsForReload depot.now result }
     {
@@ -163,6 +170,7 @@ impl TripSegment {
 fn stop_piece(window: Window, service: u64) -> Piece
     requires window { IsValidWindow window }
     requires service { service ≤ largest }
+    ensures value { result ≡ stop_piece window service }
     ensures sound { IsSoundPiece result }
     ensures stands { StandsAtDepot window service result }
 {

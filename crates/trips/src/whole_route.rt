@@ -3,7 +3,8 @@ ghost use Rattle.std.specs.Prelude.{◌≡◌, ◌+◌, ◌<◌, ◌≤◌, leng
 ghost use Rattle.problem_data.specs.Reads.{RoseAtMost};
 ghost use Rattle.problem_data.specs.Valid.{IsValid, IsValidType};
 ghost use Rattle.routing_model.specs.Listed.{IsListed};
-ghost use Rattle.trips.specs.RunSegments.{HoldsRun, place_behind, run_before};
+ghost use Rattle.trips.specs.RunSegments.{HoldsRun, run_before};
+ghost use Rattle.trips.specs.inside.LastPlaces.{place_behind};
 ghost use Rattle.trips.specs.WholeRoutes.{IsWhole};
 
 use crate::run_segment::RunSegment;

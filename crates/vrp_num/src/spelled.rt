@@ -1,3 +1,4 @@
+//! Numbers that texts spell.
 ghost use Rattle.std.specs.Prelude.{◌≡◌};
 ghost use Rattle.vrp_num.specs.DecimalText.{spelled};
 

@@ -1,3 +1,4 @@
+//! Random words.
 ghost use Rattle.std.specs.Prelude.{◌≡◌, ◌<◌, ◌≤◌};
 ghost use Rattle.vrp_num.specs.Words.{State, next_state, next_word, drawn, seeded};
 
@@ -61,28 +62,5 @@ impl Xor128 {
         ensures state { self.new ≡ next_state self.old }
     {
         self.next() % n
-    }
-}
-
-#[cfg(test)]
-mod tests {
-    use super::*;
-
-    #[test]
-    fn first_words(rt: HostRuntime) {
-        let mut published = Xor128::with_state(123_456_789, 362_436_069, 521_288_629, 88_675_123);
-        assert_eq!(rt; published.next(), 3_701_687_786);
-        let mut seeded = Xor128::seeded(1);
-        for word in [0x8e41_5c27, 0x49b3_0577, 0x9059_5a31] {
-            assert_eq!(rt; seeded.next(), word);
-        }
-    }
-
-    #[test]
-    fn draws(rt: HostRuntime) {
-        let mut generator = Xor128::seeded(1);
-        assert_eq!(rt; generator.below(10), 3);
-        assert_eq!(rt; generator.below(1000), 111);
-        assert_eq!(rt; generator.next(), 2_421_774_897);
     }
 }

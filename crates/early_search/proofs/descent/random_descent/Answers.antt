@@ -12,7 +12,7 @@ take-whole n xs ys e = ap (λ (m : ℕ). take m (xs ++ ys)) e ∙ take-append_se
 
 pub descend-requires-clause-candidates : goal.descend-requires-clause-candidates
 descend-requires-clause-candidates c =
-    candidates-move c.args.given.now c.args.words.now c.as_slice-2.result.now
+    candidates-move c.args.given.now c.args.generator.now c.as_slice-2.result.now
     (c.as_slice-2.ensures.value ∙ c.in_ok-candidates.ensures ∙ ap (early_candidates c.args.given.now) (c.as_slice.ensures.value ∙ c.in_ok-order.ensures.order))
 
 pub returns-clause-solution : goal.returns-clause-solution

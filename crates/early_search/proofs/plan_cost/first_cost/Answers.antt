@@ -2,4 +2,4 @@ use Rattle.early_search.proofs.ShortLists.{drivable}
 use Rattle.early_search.proofs.plan_cost.first_cost.Goals as goal
 
 pub solution_cost-requires-clause-plan : goal.solution_cost-requires-clause-plan
-solution_cost-requires-clause-plan c = drivable c.args.given.now c.args.solution.now.routes c.problem-valid.ensures.valid c.requires
+solution_cost-requires-clause-plan c = drivable c.args.given.now c.args.solution.now.routes c.validity.ensures c.requires

@@ -11,7 +11,7 @@ use Rattle.early_search.proofs.random_plan.choice_at.Goals as goal
 pub choice_in_group-requires-clause-group : goal.choice_in_group-requires-clause-group
 choice_in_group-requires-clause-group c =
     let place : ℕ = slice_index c.args.order.now c.args.at in
-    let e : (client_at c.args.given.now place).group ≡ Some c.in-Some.group = sym (ap (λ (x : Client). x.group) c.client-client.ensures) ∙ c.in-Some.is in
+    let e : (client_at c.args.given.now place).group ≡ Some c.in-Some.group = sym (ap (λ (x : Client). x.group) c.client-client.ensures.client) ∙ c.in-Some.is in
     group_in_range c.args.given.now place c.in-Some.group c.requires.valid (c.requires.clients c.args.at 0 c.requires.at) e
 
 pub choice_in_group-requires-clause-marks : goal.choice_in_group-requires-clause-marks
@@ -21,7 +21,7 @@ choice_in_group-requires-clause-marks c =
 pub returns-in-Some-clause-choice : goal.returns-in-Some-clause-choice
 returns-in-Some-clause-choice c =
     let place : ℕ = slice_index c.args.order.now c.args.at in
-    let e : (client_at c.args.given.now place).group ≡ Some c.in-Some.group = sym (ap (λ (x : Client). x.group) c.client-client.ensures) ∙ c.in-Some.is in
+    let e : (client_at c.args.given.now place).group ≡ Some c.in-Some.group = sym (ap (λ (x : Client). x.group) c.client-client.ensures.client) ∙ c.in-Some.is in
     let inside = group_in_range c.args.given.now place c.in-Some.group c.requires.valid (c.requires.clients c.args.at 0 c.requires.at) e in
     c.choice_in_group.ensures.choice
     ∙ ap (λ (l : List Bool). choice_by_group c.args.given.now l c.in-Some.group) c.requires.marks
@@ -30,7 +30,7 @@ returns-in-Some-clause-choice c =
 pub returns-in-Some-clause-marks : goal.returns-in-Some-clause-marks
 returns-in-Some-clause-marks c =
     let place : ℕ = slice_index c.args.order.now c.args.at in
-    let e : (client_at c.args.given.now place).group ≡ Some c.in-Some.group = sym (ap (λ (x : Client). x.group) c.client-client.ensures) ∙ c.in-Some.is in
+    let e : (client_at c.args.given.now place).group ≡ Some c.in-Some.group = sym (ap (λ (x : Client). x.group) c.client-client.ensures.client) ∙ c.in-Some.is in
     let inside = group_in_range c.args.given.now place c.in-Some.group c.requires.valid (c.requires.clients c.args.at 0 c.requires.at) e in
     c.choice_in_group.ensures.marks
     ∙ ap (λ (l : List Bool). set l c.in-Some.group true) c.requires.marks
@@ -40,7 +40,7 @@ returns-in-Some-clause-marks c =
 pub returns-then-client-eq0-clause-marks : goal.returns-then-client-eq0-clause-marks
 returns-then-client-eq0-clause-marks c =
     let place : ℕ = slice_index c.args.order.now c.args.at in
-    let e : (client_at c.args.given.now place).group ≡ None = sym (ap (λ (x : Client). x.group) c.client-client.ensures) ∙ c.in-None.is in
+    let e : (client_at c.args.given.now place).group ≡ None = sym (ap (λ (x : Client). x.group) c.client-client.ensures.client) ∙ c.in-None.is in
     c.requires.marks
     ∙ sym (group_marks-alone c.args.given.now (take c.args.at c.args.order.now) place e)
     ∙ ap (group_marks c.args.given.now) (sym (take_more c.args.order.now c.args.at 0 c.requires.at))
@@ -48,7 +48,7 @@ returns-then-client-eq0-clause-marks c =
 pub returns-else-client-eq0-clause-marks : goal.returns-else-client-eq0-clause-marks
 returns-else-client-eq0-clause-marks c =
     let place : ℕ = slice_index c.args.order.now c.args.at in
-    let e : (client_at c.args.given.now place).group ≡ None = sym (ap (λ (x : Client). x.group) c.client-client.ensures) ∙ c.in-None.is in
+    let e : (client_at c.args.given.now place).group ≡ None = sym (ap (λ (x : Client). x.group) c.client-client.ensures.client) ∙ c.in-None.is in
     c.requires.marks
     ∙ sym (group_marks-alone c.args.given.now (take c.args.at c.args.order.now) place e)
     ∙ ap (group_marks c.args.given.now) (sym (take_more c.args.order.now c.args.at 0 c.requires.at))

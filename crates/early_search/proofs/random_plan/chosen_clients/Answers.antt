@@ -21,15 +21,15 @@ loop-at-preserved c =
     let order = c.args.order.now in
     let at = c.loop-at.at in
     let here : at < length order = omega arith in
-    let taken : is_taken (choice_next p order at) (walked p order c.args.words.now at).state ≡ c.is_chosen.result =
+    let taken : is_taken (choice_next p order at) (walked p order c.args.generator.now at).state ≡ c.is_chosen.result =
     sym (c.is_chosen.ensures.chosen ∙ ap₂ is_taken c.choice_at-choice.ensures.choice c.loop-at.invariant.state) in
     record {
       marks = c.choice_at-choice.ensures.marks;
       chosen = elim c.if-is_chosen.branch [
         | then-is_chosen+in_ok-push w ↦ ap (λ (v : Vec ℕ Global). v.items) w.chosen-is ∙ w.in_ok-push.ensures.items
-            ∙ picked-yes p order c.args.words.now at c.loop-at.chosen.items here (taken ∙ w.if-is_chosen.true) c.loop-at.invariant.chosen
+            ∙ picked-yes p order c.args.generator.now at c.loop-at.chosen.items here (taken ∙ w.if-is_chosen.true) c.loop-at.invariant.chosen
         | else-is_chosen w ↦ ap (λ (v : Vec ℕ Global). v.items) w.chosen-is
-            ∙ picked-no p order c.args.words.now at c.loop-at.chosen.items here (taken ∙ w.if-is_chosen.false) c.loop-at.invariant.chosen
+            ∙ picked-no p order c.args.generator.now at c.loop-at.chosen.items here (taken ∙ w.if-is_chosen.false) c.loop-at.invariant.chosen
       ];
-      state = c.is_chosen.ensures.state ∙ ap₂ state_past c.choice_at-choice.ensures.choice c.loop-at.invariant.state ∙ sym (state-more p order c.args.words.now at here);
+      state = c.is_chosen.ensures.state ∙ ap₂ state_past c.choice_at-choice.ensures.choice c.loop-at.invariant.state ∙ sym (state-more p order c.args.generator.now at here);
     }

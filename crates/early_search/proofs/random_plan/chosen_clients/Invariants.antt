@@ -7,6 +7,6 @@ use Rattle.early_search.proofs.random_plan.chosen_clients.Given as goal
 abbrev pub invariant-loop-at : goal.invariant-loop-at
 invariant-loop-at l = record {
   marks : l.marks.items ≡ group_marks l.given (take l.at l.order);
-  chosen : l.chosen.items ≡ (walked l.given l.order l.fn.words l.at).picked;
-  state : l.words ≡ (walked l.given l.order l.fn.words l.at).state;
+  chosen : l.chosen.items ≡ (walked l.given l.order l.fn.generator l.at).picked;
+  state : l.generator ≡ (walked l.given l.order l.fn.generator l.at).state;
 }

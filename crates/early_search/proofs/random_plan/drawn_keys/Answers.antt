@@ -9,17 +9,17 @@ loop-place-preserved c =
     let left : end - c.loop-place.place ≡ suc (end - (c.loop-place.place + 1)) = omega arith in
     record {
       keys = rw (c.in_ok-push.ensures.items, c.next-word.ensures.word, c.next-word.ensures.state)
-          (keys-more (end - (c.loop-place.place + 1)) (end - c.loop-place.place) c.loop-place.place c.loop-place.words c.loop-place.keys.items (keys_from c.args.count c.args.first c.args.words.now) left c.loop-place.invariant.keys);
+          (keys-more (end - (c.loop-place.place + 1)) (end - c.loop-place.place) c.loop-place.place c.loop-place.generator c.loop-place.keys.items (keys_from c.args.count c.args.first c.args.generator.now) left c.loop-place.invariant.keys);
       state = rw c.next-word.ensures.state
-          (state-more (end - (c.loop-place.place + 1)) (end - c.loop-place.place) c.loop-place.words (state_after c.args.count c.args.words.now) left c.loop-place.invariant.state);
+          (state-more (end - (c.loop-place.place + 1)) (end - c.loop-place.place) c.loop-place.generator (state_after c.args.count c.args.generator.now) left c.loop-place.invariant.state);
     }
 
 pub returns-clause-keys : goal.returns-clause-keys
 returns-clause-keys c =
     let end = c.args.first + c.args.count in
-    keys-none (end - c.loop-place.place) c.loop-place.place c.loop-place.words c.loop-place.keys.items (keys_from c.args.count c.args.first c.args.words.now) (omega arith) c.loop-place.invariant.keys
+    keys-none (end - c.loop-place.place) c.loop-place.place c.loop-place.generator c.loop-place.keys.items (keys_from c.args.count c.args.first c.args.generator.now) (omega arith) c.loop-place.invariant.keys
 
 pub returns-clause-state : goal.returns-clause-state
 returns-clause-state c =
     let end = c.args.first + c.args.count in
-    state-none (end - c.loop-place.place) c.loop-place.words (state_after c.args.count c.args.words.now) (omega arith) c.loop-place.invariant.state
+    state-none (end - c.loop-place.place) c.loop-place.generator (state_after c.args.count c.args.generator.now) (omega arith) c.loop-place.invariant.state

@@ -6,6 +6,6 @@ use Rattle.early_search.proofs.random_plan.drawn_keys.Given as goal
 -- what is drawn from here on completes what all draws give
 abbrev pub invariant-loop-place : goal.invariant-loop-place
 invariant-loop-place l = record {
-  keys : l.keys.items ++ keys_from (l.place-end - l.place) l.place l.words ≡ keys_from l.count l.first l.fn.words;
-  state : state_after (l.place-end - l.place) l.words ≡ state_after l.count l.fn.words;
+  keys : l.keys.items ++ keys_from (l.place-end - l.place) l.place l.generator ≡ keys_from l.count l.first l.fn.generator;
+  state : state_after (l.place-end - l.place) l.generator ≡ state_after l.count l.fn.generator;
 }

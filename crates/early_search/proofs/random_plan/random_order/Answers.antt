@@ -9,6 +9,6 @@ returns-clause-order c =
     let p : Problem = c.args.given.now in
     let depots : length c.items.result.now ≡ depot_count p = ap length c.items.ensures ∙ ap (λ (q : Problem). length q.depots) c.problem-problem.ensures.same in
     let clients : length c.items-2.result.now ≡ length p.clients = ap length c.items-2.ensures ∙ ap (λ (q : Problem). length q.clients) c.problem-problem.ensures.same in
-    let keys = c.in_ok-keys.ensures.keys ∙ ap₂ (λ (d n : ℕ). keys_from n d c.args.words.now) depots clients in
-    let sorted = order-from_sort p c.args.words.now c.in_ok-keys.keys.items c.sort.new.self.items keys c.in_ok-sort.ensures.permutation c.in_ok-sort.ensures.sorted in
+    let keys = c.in_ok-keys.ensures.keys ∙ ap₂ (λ (d n : ℕ). keys_from n d c.args.generator.now) depots clients in
+    let sorted = order-from_sort p c.args.generator.now c.in_ok-keys.keys.items c.sort.new.self.items keys c.in_ok-sort.ensures.permutation c.in_ok-sort.ensures.sorted in
     subst (λ (l : List ℕ). IfOk c.places_of_keys.result (λ r. r.items ≡ l)) (ap (map (λ (key : ℕ × ℕ). key.1)) c.as_slice.ensures.value ∙ sorted) c.places_of_keys.ensures

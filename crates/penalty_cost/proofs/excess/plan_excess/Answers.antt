@@ -3,20 +3,20 @@ use Rattle.problem_data.specs.declared.problem.VehicleType.{VehicleType}
 use Rattle.problem_data.specs.declared.visit.Visit.{Visit}
 use Rattle.routing_model.specs.Cost.{excess_distance, excess_time, route_drive}
 use Rattle.routing_model.specs.Load.{excess_load}
-use Rattle.penalty_cost.specs.Excess.{distance_of, load_of, stops_within, time_of}
-use Rattle.penalty_cost.specs.VisitSums.{at_plan, at_visits}
+use Rattle.penalty_cost.specs.inside.Excess.{distance_of, load_of, most_stops, stops_within, time_of}
+use Rattle.penalty_cost.specs.inside.VisitSums.{at_plan, at_visits}
 use Rattle.penalty_cost.proofs.FleetSums.{lists-more}
 use Rattle.penalty_cost.proofs.PlanExcess.{both-within, some_clients-few, sum-all, sum-more, within-more}
 use Rattle.penalty_cost.proofs.excess.plan_excess.Goals as goal
 
 pub added-excess-requires-clause-first : goal.added-excess-requires-clause-first
 added-excess-requires-clause-first c =
-    let few = some_clients-few c.args.given.now c.args.routes.now c.loop-vehicle.vehicle c.problem-problem.ensures.valid c.requires in
+    let few = some_clients-few c.args.given.now c.args.routes.now c.loop-vehicle.vehicle c.validity.ensures c.requires in
     (2 * c.loop-vehicle.vehicle + 3 * at_plan (λ place. 1) (take c.loop-vehicle.vehicle c.args.routes.now), omega arith, c.loop-vehicle.invariant.short)
 
 pub added-excess-requires-clause-second : goal.added-excess-requires-clause-second
 added-excess-requires-clause-second c =
-    let few = some_clients-few c.args.given.now c.args.routes.now (c.loop-vehicle.vehicle + 1) c.problem-problem.ensures.valid c.requires in
+    let few = some_clients-few c.args.given.now c.args.routes.now (c.loop-vehicle.vehicle + 1) c.validity.ensures c.requires in
     let more = lists-more c.args.routes.now (at_visits (λ place. 1)) c.loop-vehicle.vehicle c.index-routes-vehicle.result c.items.result.now c.loop-vehicle-test.true c.index-routes-vehicle.is c.items.ensures in
     (stops_within c.items.result.now, omega arith, c.vehicle_excess.ensures.short)
 
@@ -64,5 +64,5 @@ returns-clause-distance c =
 
 pub returns-clause-short : goal.returns-clause-short
 returns-clause-short c =
-    let few = some_clients-few c.args.given.now c.args.routes.now c.loop-vehicle.vehicle c.problem-problem.ensures.valid c.requires in
-    within-more (2 * c.loop-vehicle.vehicle + 3 * at_plan (λ place. 1) (take c.loop-vehicle.vehicle c.args.routes.now)) 20000 c.loop-vehicle.excess (omega arith) c.loop-vehicle.invariant.short
+    let few = some_clients-few c.args.given.now c.args.routes.now c.loop-vehicle.vehicle c.validity.ensures c.requires in
+    within-more (2 * c.loop-vehicle.vehicle + 3 * at_plan (λ place. 1) (take c.loop-vehicle.vehicle c.args.routes.now)) most_stops c.loop-vehicle.excess (omega arith) c.loop-vehicle.invariant.short

@@ -2,8 +2,8 @@ use Rattle.std.proofs.Common.{◌≡◌, ◌+◌, ◌*◌, List, length, take}
 use Rattle.std.specs.Prelude.{sum_by}
 use Rattle.problem_data.specs.declared.visit.Visit.{Visit}
 use Rattle.problem_data.specs.Reads.{RoseAtMost}
-use Rattle.penalty_cost.specs.Excess.{IsExcessWithin, distance_of, load_of, time_of}
-use Rattle.penalty_cost.specs.VisitSums.{at_plan}
+use Rattle.penalty_cost.specs.inside.Excess.{IsExcessWithin, distance_of, load_of, time_of}
+use Rattle.penalty_cost.specs.inside.VisitSums.{at_plan}
 use Rattle.penalty_cost.proofs.FleetSums.{vehicles}
 use Rattle.penalty_cost.proofs.excess.plan_excess.Given as goal
 

@@ -1,7 +1,7 @@
 use Rattle.std.proofs.Common.{◌≡◌, ℕ, ◌<◌, ◌≤◌, true}
 use Rattle.std.specs.Prelude.{nat_le}
 use Rattle.routing_model.specs.Routes.{Routes, visit_count}
-use Rattle.penalty_cost.specs.Counts.{IsCounted}
+use Rattle.penalty_cost.specs.inside.Counts.{IsCounted}
 use Rattle.penalty_cost.proofs.lawful.at_most_once.Given as goal
 
 abbrev pub invariant-loop-place : goal.invariant-loop-place

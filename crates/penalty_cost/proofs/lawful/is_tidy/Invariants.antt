@@ -1,5 +1,5 @@
 use Rattle.std.proofs.Common.{◌≤◌, length, drop}
-use Rattle.penalty_cost.specs.Counts.{IsTidiness}
+use Rattle.penalty_cost.specs.inside.Counts.{IsTidiness}
 use Rattle.penalty_cost.proofs.lawful.is_tidy.Given as goal
 
 abbrev pub invariant-loop-left : goal.invariant-loop-left

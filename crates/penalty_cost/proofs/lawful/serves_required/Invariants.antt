@@ -1,7 +1,7 @@
 use Rattle.std.proofs.Common.{◌≡◌, ℕ, ◌<◌, ◌≤◌, true, cond}
 use Rattle.routing_model.specs.Lawful.{is_required}
 use Rattle.routing_model.specs.Routes.{Routes, is_visited, visit_count}
-use Rattle.penalty_cost.specs.Counts.{IsCounted}
+use Rattle.penalty_cost.specs.inside.Counts.{IsCounted}
 use Rattle.penalty_cost.proofs.lawful.serves_required.Given as goal
 
 abbrev pub invariant-loop-place : goal.invariant-loop-place

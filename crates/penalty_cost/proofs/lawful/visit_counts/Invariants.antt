@@ -1,6 +1,6 @@
 use Rattle.std.proofs.Common.{◌≡◌, length, take}
 use Rattle.routing_model.specs.Routes.{visit_count}
-use Rattle.penalty_cost.specs.Counts.{IsCounted}
+use Rattle.penalty_cost.specs.inside.Counts.{IsCounted}
 use Rattle.penalty_cost.proofs.lawful.visit_counts.Given as goal
 
 abbrev pub invariant-loop-visits : goal.invariant-loop-visits

@@ -1,5 +1,5 @@
 use Rattle.std.proofs.Common.{◌≤◌, take}
-use Rattle.penalty_cost.specs.Counts.{CountsMembers}
+use Rattle.penalty_cost.specs.inside.Counts.{CountsMembers}
 use Rattle.penalty_cost.proofs.lawful.visited_members.Given as goal
 
 abbrev pub invariant-loop-place : goal.invariant-loop-place

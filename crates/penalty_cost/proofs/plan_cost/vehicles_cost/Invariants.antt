@@ -4,7 +4,7 @@ use Rattle.problem_data.specs.declared.problem.VehicleType.{VehicleType}
 use Rattle.problem_data.specs.declared.visit.Visit.{Visit}
 use Rattle.problem_data.specs.Reads.{RoseAtMost}
 use Rattle.routing_model.specs.Cost.{route_cost}
-use Rattle.penalty_cost.specs.Totals.{most_cost}
+use Rattle.penalty_cost.specs.inside.Totals.{most_cost}
 use Rattle.penalty_cost.proofs.FleetSums.{vehicles}
 use Rattle.penalty_cost.proofs.plan_cost.vehicles_cost.Given as goal
 

@@ -7,6 +7,6 @@ pub loop-client-preserved : goal.loop-client-preserved
 loop-client-preserved c = record {
   prizes =
       let depots : length c.items.result.now ≡ depot_count c.args.given.now = cc in
-      prizes-more c.args.given.now c.loop-client.client _ c.loop-client.prizes c.client_of.result.now (omega arith) c.client_of.ensures.value c.loop-client.invariant.prizes;
-  short = let client = c.client_of.ensures.valid.prize in omega arith;
+      prizes-more c.args.given.now c.loop-client.client _ c.loop-client.prizes c.client.result.now (omega arith) c.client.ensures.client c.loop-client.invariant.prizes;
+  short = let client = c.client.ensures.valid.prize in omega arith;
 }

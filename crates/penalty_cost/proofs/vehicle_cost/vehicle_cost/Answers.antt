@@ -7,5 +7,5 @@ use Rattle.penalty_cost.proofs.vehicle_cost.vehicle_cost.Goals as goal
 pub returns-clause-value : goal.returns-clause-value
 returns-clause-value c =
     c.used_cost.ensures.value
-    ∙ route_cost-is c.args.given.now c.kind_of-kind.result.now c.args.visits.now c.args.weights c.totals_of-totals.result (grind (arith, nat_tests)) c.requires.drivable.tidy c.totals_of-totals.ensures.totals
-    ∙ ap (λ t. route_cost c.args.given.now c.args.weights t c.args.visits.now) c.kind_of-kind.ensures.value
+    ∙ route_cost-is c.args.given.now c.vehicle_type-vehicle_type.result.now c.args.visits.now c.args.weights c.totals_of-totals.result (grind (arith, nat_tests)) c.requires.listed.tidy c.totals_of-totals.ensures.totals
+    ∙ ap (λ t. route_cost c.args.given.now c.args.weights t c.args.visits.now) c.vehicle_type-vehicle_type.ensures.vehicle_type

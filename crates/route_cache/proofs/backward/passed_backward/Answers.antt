@@ -1,5 +1,5 @@
 use Rattle.std.proofs.Common.{◌≡◌, ℕ, ◌+◌, ◌-◌, ◌<◌, length, subst, arith}
-use Rattle.route_cache.specs.Inside.Passes.{IsBackward}
+use Rattle.route_cache.specs.inside.Passes.{IsBackward}
 use Rattle.route_cache.proofs.MarkFacts.{distance-ahead, duration-ahead, no_mark}
 use Rattle.route_cache.proofs.backward.passed_backward.Goals as goal
 

@@ -1,4 +1,4 @@
-use Rattle.route_cache.specs.Inside.Passes.{IsBackward}
+use Rattle.route_cache.specs.inside.Passes.{IsBackward}
 use Rattle.route_cache.proofs.backward.passed_backward.Given as goal
 
 abbrev pub invariant-loop-k : goal.invariant-loop-k

@@ -1,6 +1,6 @@
 use Rattle.std.proofs.Common.{◌*◌}
 use Rattle.problem_data.specs.Reads.{RoseAtMost}
-use Rattle.route_cache.specs.Inside.Passes.{IsForward}
+use Rattle.route_cache.specs.inside.Passes.{IsForward}
 use Rattle.route_cache.proofs.forward.passed_forward.Given as goal
 
 abbrev pub invariant-loop-k : goal.invariant-loop-k

@@ -2,7 +2,7 @@ use Rattle.std.proofs.Common.{◌≡◌, ℕ, ◌<◌, ◌+◌, false, length, g
 use Rattle.problem_data.specs.declared.visit.Visit.TheVariants.{Client}
 use Rattle.trips.specs.RunSegments.{HoldsRun}
 use Rattle.trips.proofs.RunSteps.{part-one}
-use Rattle.route_cache.specs.Inside.Tables.{run_up_to}
+use Rattle.route_cache.specs.inside.Tables.{run_up_to}
 use Rattle.route_cache.proofs.Lookups.{begun-some}
 use Rattle.route_cache.proofs.MarkFacts.{distance-to, no_mark}
 use Rattle.route_cache.proofs.route.folded.Goals as goal

@@ -1,6 +1,6 @@
 use Rattle.std.proofs.Common.{◌<◌, false}
 use Rattle.trips.specs.RunSegments.{HoldsRun}
-use Rattle.route_cache.specs.Inside.Tables.{run_up_to}
+use Rattle.route_cache.specs.inside.Tables.{run_up_to}
 use Rattle.route_cache.proofs.route.folded.Given as goal
 
 abbrev pub invariant-loop-k : goal.invariant-loop-k

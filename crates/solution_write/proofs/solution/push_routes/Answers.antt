@@ -1,6 +1,6 @@
 use Rattle.std.proofs.Common.{◌≡◌, ◌+◌, ◌++◌, ◌<◌, ◌≤◌, List, length, get_or, drop, ap, ◌∙◌, arith}
 use Rattle.problem_data.specs.declared.problem.VehicleType.{VehicleType}
-use Rattle.solution_write.specs.Lines.{used_of_type}
+use Rattle.solution_write.specs.inside.Lines.{used_of_type}
 use Rattle.solution_write.proofs.LineLaws.{length-used_of_type, left-more, lines_left, used_from, used_from-more}
 use Rattle.solution_write.proofs.solution.push_routes.Goals as goal
 

@@ -1,6 +1,6 @@
 use Rattle.std.proofs.Common.{◌≡◌, ◌+◌, ◌++◌, [], ◌∷◌, length, List, get_or, take, ap, sym, ◌∙◌, arith}
 use Rattle.problem_data.specs.declared.visit.Visit.{Visit}
-use Rattle.solution_write.specs.Lines.{used_of_type}
+use Rattle.solution_write.specs.inside.Lines.{used_of_type}
 use Rattle.solution_write.proofs.LineLaws.{length-used_of_type, lines_more, used_of_type-more}
 use Rattle.std.proofs.lemmas.List.{length-take, length-append}
 use Rattle.solution_write.proofs.solution.push_routes_of_type.Goals as goal

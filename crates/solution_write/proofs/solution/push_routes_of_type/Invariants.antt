@@ -1,6 +1,6 @@
 use Rattle.std.proofs.Common.{◌≡◌, ◌+◌, ◌++◌, string_bytes, take, length}
 use Rattle.vrp_texts.specs.Printed.{route_lines_from}
-use Rattle.solution_write.specs.Lines.{used_of_type}
+use Rattle.solution_write.specs.inside.Lines.{used_of_type}
 use Rattle.solution_write.proofs.solution.push_routes_of_type.Given as goal
 
 -- the lines of the first vehicles are added

@@ -1,5 +1,5 @@
 use Rattle.std.proofs.Common.{[], ◌∷◌, ◌∙◌, ap}
-use Rattle.trips.specs.declared.pieces.Piece.{Piece}
+use Rattle.trips.specs.declared.piece.Piece.{Piece}
 use Rattle.route_cache.proofs.Starting.{backward-start}
 use Rattle.route_cache.proofs.backward.Backward.new.Goals as goal
 

@@ -1,7 +1,7 @@
 use Rattle.std.proofs.Common.{[], ◌∷◌, ◌++◌, ◌∙◌, ap, get_or}
 use Rattle.problem_data.specs.declared.visit.Visit.TheVariants.{Client}
-use Rattle.trips.specs.declared.pieces.Piece.{Piece}
-use Rattle.route_cache.specs.Inside.Shapes.{grown_middles, grown_outer}
+use Rattle.trips.specs.declared.piece.Piece.{Piece}
+use Rattle.route_cache.specs.inside.Shapes.{grown_middles, grown_outer}
 use Rattle.route_cache.proofs.Onward.{backward-at, holds-behind_at}
 use Rattle.route_cache.proofs.backward.Backward.step.Goals as goal
 

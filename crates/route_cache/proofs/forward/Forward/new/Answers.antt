@@ -1,5 +1,5 @@
 use Rattle.std.proofs.Common.{◌≡◌, [], ◌∷◌, ◌∙◌, ap, rules}
-use Rattle.trips.specs.declared.pieces.Piece.{Piece}
+use Rattle.trips.specs.declared.piece.Piece.{Piece}
 use Rattle.route_cache.proofs.Starting.{forward-start}
 use Rattle.route_cache.proofs.forward.Forward.new.Goals as goal
 

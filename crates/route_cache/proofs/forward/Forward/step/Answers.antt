@@ -1,7 +1,7 @@
 use Rattle.std.proofs.Common.{◌≡◌, ◌+◌, [], ◌∷◌, ◌++◌, ◌∙◌, ap, rules, true, get_or}
 use Rattle.problem_data.specs.declared.visit.Visit.TheVariants.{Client}
-use Rattle.trips.specs.declared.pieces.Piece.{Piece}
-use Rattle.route_cache.specs.Inside.Shapes.{grown_middles, grown_outer}
+use Rattle.trips.specs.declared.piece.Piece.{Piece}
+use Rattle.route_cache.specs.inside.Shapes.{grown_middles, grown_outer}
 use Rattle.route_cache.proofs.MarkFacts.{begun-start, leg-next, over-next}
 use Rattle.route_cache.proofs.Onward.{forward-next}
 use Rattle.route_cache.proofs.forward.Forward.step.Goals as goal

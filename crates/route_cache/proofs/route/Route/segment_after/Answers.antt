@@ -1,10 +1,10 @@
 use Rattle.std.proofs.Common.{◌≡◌, ◌≤◌, ◌+◌, ◌-◌, ap, length, subst, ℕ, get_or, arith, rules}
 use Rattle.routing_model.specs.Listed.{type_of_vehicle}
-use Rattle.trips.specs.declared.pieces.Piece.{Piece}
+use Rattle.trips.specs.declared.piece.Piece.{Piece}
 use Rattle.trips.specs.RunSegments.{run_from}
 use Rattle.route_cache.specs.declared.mark.Mark.{Mark}
-use Rattle.route_cache.specs.Inside.Shapes.{back, shaped}
-use Rattle.route_cache.specs.Inside.Tables.{TripsHold}
+use Rattle.route_cache.specs.inside.Shapes.{back, shaped}
+use Rattle.route_cache.specs.inside.Tables.{TripsHold}
 use Rattle.route_cache.specs.Routes.{RouteState}
 use Rattle.route_cache.proofs.Counting.{reloads-fewer}
 use Rattle.route_cache.proofs.Lookups.{after-held, reloads-behind}

@@ -1,7 +1,7 @@
 use Rattle.std.proofs.Common.{◌≡◌, ◌≤◌, ap, length, subst}
 use Rattle.routing_model.specs.Listed.{type_of_vehicle}
 use Rattle.trips.specs.RunSegments.{run_before}
-use Rattle.route_cache.specs.Inside.Tables.{TripsHold}
+use Rattle.route_cache.specs.inside.Tables.{TripsHold}
 use Rattle.route_cache.specs.Routes.{RouteState}
 use Rattle.route_cache.proofs.Lookups.{before-held}
 use Rattle.route_cache.proofs.route.Route.segment_before.Goals as goal

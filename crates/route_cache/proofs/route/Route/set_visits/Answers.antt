@@ -2,7 +2,7 @@ use Rattle.std.proofs.Common.{◌≡◌, ap, subst, sym}
 use Rattle.problem_data.specs.declared.problem.Problem.{Problem}
 use Rattle.problem_data.specs.declared.problem.VehicleType.{VehicleType}
 use Rattle.routing_model.specs.Listed.{IsListed}
-use Rattle.route_cache.specs.Inside.Kept.{IsKept}
+use Rattle.route_cache.specs.inside.Kept.{IsKept}
 use Rattle.route_cache.specs.Routes.{RouteState}
 use Rattle.route_cache.proofs.route.Route.set_visits.Goals as goal
 

@@ -1,7 +1,7 @@
 use Rattle.std.proofs.Common.{subst}
 use Rattle.problem_data.specs.declared.problem.VehicleType.{VehicleType}
 use Rattle.problem_data.specs.Valid.{IsValidType}
-use Rattle.route_cache.specs.Inside.Kept.{IsKept}
+use Rattle.route_cache.specs.inside.Kept.{IsKept}
 use Rattle.route_cache.proofs.route.Route.with_visits.Goals as goal
 
 pub invariant_of-result : goal.invariant_of-result

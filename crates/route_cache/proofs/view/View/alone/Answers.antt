@@ -1,6 +1,6 @@
 use Rattle.std.proofs.Common.{◌≡◌, ◌∙◌, ap, subst, None}
 use Rattle.std.specs.Option.{option_map}
-use Rattle.route_cache.specs.Inside.Lookups.{IsAlone}
+use Rattle.route_cache.specs.inside.Lookups.{IsAlone}
 use Rattle.route_cache.specs.Routes.{ViewState}
 use Rattle.route_cache.proofs.Lone.{lone-alone, lone-here}
 use Rattle.route_cache.proofs.view.View.alone.Goals as goal

@@ -1,0 +1,4 @@
+mod KeyedRows
+mod NeighbourLists
+mod PairRange
+mod RowNeighbours

@@ -1,0 +1,12 @@
+//! The granular neighbourhood: for each client the clients that are nearest in time and space (Vidal and others 2012).
+#![tactic(auto)]
+
+mod near_clients;
+mod nearest;
+mod neighbour_lists;
+mod proximities;
+mod proximity;
+
+pub use near_clients::neighbours;
+pub use neighbour_lists::Neighbours;
+pub use proximity::Proximity;

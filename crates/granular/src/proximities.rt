@@ -1,0 +1,102 @@
+//! How near clients are to one another.
+ghost use Rattle.std.specs.Prelude.{◌≡◌, ◌*◌, ◌<◌, ◌≤◌, IfOk, IsTrue, length};
+ghost use Rattle.problem_data.specs.Places.{is_client_place};
+ghost use Rattle.problem_data.specs.Valid.{IsValid};
+ghost use Rattle.search_model.specs.Neighbours.{near, proximity};
+ghost use Rattle.granular.specs.Rows.{AreWeights, all_proximities, pair_proximity};
+
+use crate::proximity::Proximity;
+use problem_data::{NoMemory, ProblemData, Reads, Steps, leg};
+use rayon::prelude::*;
+use std::alloc::Global;
+use std::thread::Threads;
+
+/// How far a client is after another, in thousandths of a unit of distance: the distance, and the weighted wait and time warp of a
+/// vehicle that drives from the one to the other.
+fn near(
+    given: &ProblemData,
+    from: u32,
+    to: u32,
+    weights: Proximity,
+    reads: &mut Steps<Reads>,
+) -> u64
+    requires from { IsTrue (is_client_place given.now from) }
+    requires to { IsTrue (is_client_place given.now to) }
+    requires weights { AreWeights weights }
+    ensures { result ≡ near given.now weights.wait weights.warp from to }
+{
+    given.validity();
+    let first = given.client(from);
+    let second = given.client(to);
+    let leg = leg(given, 0, from, to, reads);
+    let duration = u64::from(leg.duration);
+    let latest = first.window.late + first.service + duration;
+    let earliest = first.window.early + first.service + duration;
+    let wait = second.window.early.saturating_sub(latest);
+    let warp = earliest.saturating_sub(second.window.late);
+    1000 * u64::from(leg.distance) + weights.wait * wait + weights.warp * warp
+}
+
+/// How near two clients are: by the nearer of their two orders.
+fn proximity(
+    given: &ProblemData,
+    first: u32,
+    second: u32,
+    weights: Proximity,
+    reads: &mut Steps<Reads>,
+) -> u64
+    requires first { IsTrue (is_client_place given.now first) }
+    requires second { IsTrue (is_client_place given.now second) }
+    requires weights { AreWeights weights }
+    ensures { result ≡ proximity given.now weights.wait weights.warp first second }
+{
+    let there = near(given, first, second, weights, reads);
+    let back = near(given, second, first, weights, reads);
+    there.min(back)
+}
+
+/// How near the clients of the k-th pair are, pairs being counted row after row.
+#[tactic(auto, unfolding(crate::specs::Rows::pair_proximity))]
+fn pair_proximity<R: Threads + Sync>(
+    rt: &R,
+    given: &ProblemData,
+    weights: Proximity,
+    k: usize,
+) -> u64
+    requires pair { k < length given.now.clients * length given.now.clients }
+    requires weights { AreWeights weights }
+    ensures { result ≡ pair_proximity given.now weights k }
+{
+    given.validity();
+    let clients = given.client_places();
+    let count = (clients.end - clients.start) as usize;
+    let first = clients.start + (k / count) as u32;
+    let second = clients.start + (k % count) as u32;
+    let mut reads = Steps::new(rt);
+    proximity(given, first, second, weights, &mut reads)
+}
+
+/// The proximities of all pairs of clients, row after row. They are computed side by side.
+pub(crate) fn proximities<R: Threads + Sync>(
+    rt: &R,
+    alloc: Global,
+    given: &ProblemData,
+    weights: Proximity,
+) -> Result<Vec<u64>, NoMemory>
+    requires { AreWeights weights }
+    ensures { IfOk result (λ made. made.items ≡ all_proximities given.now weights) }
+{
+    given.validity();
+    let clients = given.problem().clients.items().len();
+    let made = (0..clients * clients)
+        .into_par_iter()
+        .map(
+            |k: usize| -> u64
+                requires pair { k < length given.now.clients * length given.now.clients }
+                requires weights { AreWeights weights }
+                ensures { result ≡ pair_proximity given.entry.now weights k }
+            { pair_proximity(rt, given, weights, k) },
+        )
+        .collect(rt, alloc)?;
+    Ok(made)
+}

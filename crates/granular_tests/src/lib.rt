@@ -1,0 +1,5 @@
+//! Tests of neighbour lists.
+#![tactic(auto)]
+
+#[cfg(test)]
+mod neighbour_lists;

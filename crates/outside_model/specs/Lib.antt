@@ -1,0 +1,4 @@
+pub mod Delivery
+pub mod Files
+pub mod Holding
+pub mod Sinks

@@ -1,0 +1,4 @@
+-- Words that only contracts and proofs inside the crate cite.
+pub mod Asked
+pub mod Report
+pub mod Texts

@@ -1,0 +1,3 @@
+pub mod NoGroups
+pub mod ThreeClientsAreValid
+pub mod TwoTripsAreValid

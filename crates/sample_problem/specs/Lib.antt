@@ -1,0 +1,2 @@
+pub mod ThreeClients
+pub mod TwoTrips

@@ -1,0 +1,2 @@
+-- Words that only contracts and proofs inside the crate cite.
+pub mod Lines
