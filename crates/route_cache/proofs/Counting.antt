@@ -18,7 +18,7 @@ use Rattle.route_cache.proofs.Slices.{slice-before, slice-more, slice-none, slic
 one_for : Visit → ℕ
 one_for visit = if not (is_client visit) then 1 else 0
 
-reloads-cons : (visit : Visit) (visits : List Visit) → reloads_in (visit ∷ visits) ≡ reload_of visit + reloads_in visits
+pub reloads-cons : (visit : Visit) (visits : List Visit) → reloads_in (visit ∷ visits) ≡ reload_of visit + reloads_in visits
 unfolding one_for
 reloads-cons (Client place) visits = sum_by-cons one_for (Client place) visits
 reloads-cons (Reload depot) visits = sum_by-cons one_for (Reload depot) visits

@@ -10,3 +10,4 @@ pub mod Onward
 pub mod Lookups
 pub mod Lone
 pub mod Types
+pub mod LawfulLists

@@ -1,4 +1,5 @@
 pub mod inside
+pub mod Laws
 pub mod Marks
 pub mod Routes
 pub mod Views

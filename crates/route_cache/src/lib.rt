@@ -8,11 +8,13 @@ mod backward;
 mod forward;
 mod growing;
 mod kept;
+mod laws;
 mod mark;
 mod piece_table;
 mod route;
 mod view;
 
+pub use laws::lists_of_lawful_plans_are_listed;
 pub use mark::Mark;
 pub use route::Route;
 pub use view::{View, client_view, reload_view};

@@ -34,8 +34,11 @@ pub struct Mark {
     pub over: u32,
 }
 
+/// 48 bytes a position.
+const _: () = prove!(size_of::<Mark>() == 48);
+
 /// What a visit adds to the sums of a mark.
-#[derive(Clone, Copy, Debug, PartialEq, Eq)]
+#[derive(Clone, Copy)]
 struct Amounts {
     delivery: u64,
     pickup: u64,
@@ -111,7 +114,6 @@ impl Mark {
         requires leg { leg ≡ leg_to given.now vehicle_type.now visits.now (length visits.now + 1) }
         ensures { IsMark given.now vehicle_type.now visits.now (length visits.now + 1) result }
     {
-        let (_given, _visits) = (given, visits);
         Mark {
             distance: driven,
             place: vehicle_type.end,

@@ -193,6 +193,7 @@ impl<'d> Route<'d> {
         requires in_list { j ≤ length self.now.visits }
         ensures view { result ≡ record { problem = self.now.problem; vehicle = Some self.now.vehicle; list = self.now.visits; first = i - 1; end = j; starts = false; ends = false } }
         ensures reads { RoseAtMost (j - i) reads.old reads.new }
+        ensures unread { reads.new ≡ reads.old }
     {
         View {
             given: self.given,

@@ -31,6 +31,9 @@ pub struct View<'r> {
     pub(crate) ends: bool,
 }
 
+/// A handle is small, so that it is cheap to hand on.
+const _: () = prove!(size_of::<View<'static>>() <= 64);
+
 impl<'r> Model for View<'r> {
     ghost use Rattle.std.specs.Option.{option_map};
     ghost use Rattle.route_cache.specs.Routes.{ViewState};

@@ -8,7 +8,8 @@ use Rattle.trips.specs.Conditions.{CanClose, CanMerge, IsSoundTrips}
 use Rattle.trips.specs.Runs.{Run, whole}
 use Rattle.trips.specs.Standing.{JoinsRuns, StandsForRun}
 use Rattle.trips.proofs.InRange.{whole-can}
-use Rattle.trips.proofs.TwoTrips.{is_run, lone, merges, named-2, named-3, one_vehicle, run, two_trips}
+use Rattle.sample_problem.specs.TwoTrips.{one_vehicle, two_trips}
+use Rattle.trips_tests.proofs.TwoTrips.{is_run, lone, merges, named-2, named-3, run}
 use Rattle.route_cache.specs.Routes.{RouteState, ViewState}
 use Rattle.route_cache.specs.Views.{StandsForView}
 

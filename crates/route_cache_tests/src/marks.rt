@@ -4,17 +4,8 @@ use route_cache::{Mark, Route};
 use sample_problem::problem_of_two_trips;
 use std::test::Fail;
 
-/// The marks of the list `1 |0 2`: legs of 5, a prize of 7, and nothing to deliver.
-const MARKS: [Mark; 5] = [
-    mark(0, 0, 0, 0, 0, 0),
-    mark(5, 7, 1, 0, 5, 0),
-    mark(10, 7, 0, 1, 5, 5),
-    mark(15, 7, 2, 1, 5, 0),
-    mark(20, 7, 0, 1, 5, 0),
-];
-
 /// A mark without loads.
-const fn mark(distance: i64, prize: i64, place: u32, reloads: u32, leg: u32, over: u32) -> Mark {
+fn mark(distance: i64, prize: i64, place: u32, reloads: u32, leg: u32, over: u32) -> Mark {
     Mark {
         distance,
         delivery: 0,
@@ -27,6 +18,7 @@ const fn mark(distance: i64, prize: i64, place: u32, reloads: u32, leg: u32, ove
     }
 }
 
+/// The marks of the list `1 |0 2`: legs of 5, a prize of 7, and nothing to deliver.
 #[test]
 fn marks_of_two_trips(rt: HostRuntime) -> Result<(), Fail> {
     let alloc = rt.alloc();
@@ -34,7 +26,14 @@ fn marks_of_two_trips(rt: HostRuntime) -> Result<(), Fail> {
     let given = problem_of_two_trips(alloc)?;
     let visits = [Visit::Client(1), Visit::Reload(0), Visit::Client(2)];
     let route = Route::with_visits(alloc, &given, 0, &visits, &mut reads)?;
-    assert_eq!(rt; route.marks(), MARKS.as_slice());
+    let wanted = [
+        mark(0, 0, 0, 0, 0, 0),
+        mark(5, 7, 1, 0, 5, 0),
+        mark(10, 7, 0, 1, 5, 5),
+        mark(15, 7, 2, 1, 5, 0),
+        mark(20, 7, 0, 1, 5, 0),
+    ];
+    assert_eq!(rt; route.marks(), wanted.as_slice());
     assert_eq!(rt; route.prizes(), 7);
     Ok(())
 }
