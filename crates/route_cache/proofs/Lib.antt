@@ -1,3 +1,13 @@
+pub mod Slices
+pub mod Shapes
+pub mod Counting
+pub mod Tables
+pub mod Alongs
+pub mod Lengths
+pub mod MarkFacts
+pub mod Starting
+pub mod Onward
+pub mod Lookups
+pub mod Lone
 pub mod Types
-pub mod Views
-pub mod LentRuns
+pub mod LawfulLists

@@ -1,3 +1,5 @@
-pub mod Caching
+pub mod inside
+pub mod Laws
+pub mod Marks
 pub mod Routes
 pub mod Views

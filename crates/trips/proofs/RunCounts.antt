@@ -29,7 +29,7 @@ both-true true false h = absurd (never h)
 both-true false b h = absurd (never h)
 
 -- what a test of all says of each
-all-named : (p : Problem) (visits : List Visit) → IsTrue (list_all (names_place p) visits) → All (λ visit. IsTrue (names_place p visit)) visits
+pub all-named : (p : Problem) (visits : List Visit) → IsTrue (list_all (names_place p) visits) → All (λ visit. IsTrue (names_place p visit)) visits
 all-named p [] h = All-nil (λ (visit : Visit). IsTrue (names_place p visit))
 all-named p (visit ∷ visits) h =
     let k = both-true (names_place p visit) (list_all (names_place p) visits) h in

@@ -1,9 +1,9 @@
 -- One visit more, behind a run of a list and before one.
-use Rattle.std.proofs.Common.{◌≡◌, ℕ, suc, ◌+◌, ◌-◌, ◌<◌, ◌≤◌, Bool, true, false, List, [], ◌∷◌, ◌++◌, length, get_or, take, drop, refl, ◌∙◌, ap, sym, subst, arith, slice_range, add-one, ◌⊎◌, inl, inr}
+use Rattle.std.proofs.Common.{◌≡◌, ℕ, suc, ◌+◌, ◌-◌, ◌<◌, ◌≤◌, Bool, true, false, List, [], ◌∷◌, ◌++◌, length, get_or, take, drop, refl, ◌∙◌, ap, sym, subst, arith, slice_range, add-one}
 use Rattle.std.specs.Prelude.{All, IsTrue, pos}
 use Rattle.std.proofs.Math.Seq.{drop-cons}
 use Rattle.std.proofs.lemmas.Bool.Decides.{nat_tests}
-use Rattle.std.proofs.lemmas.List.{append-nil, get_or-drop, get_or_append_left, get_or_push, length-drop, take_all, take_more}
+use Rattle.std.proofs.lemmas.List.{append-nil, get_or-drop, length-drop, take_all, take_more}
 use Rattle.std.proofs.lemmas.List.Elements.{All-get_or, All-head, All-tail}
 use Rattle.problem_data.specs.declared.problem.Problem.{Problem}
 use Rattle.problem_data.specs.declared.problem.VehicleType.{VehicleType}
@@ -80,19 +80,6 @@ last-there p start visits listed h = behind start visits (named-listed p visits 
     behind place (visit ∷ visits) named h =
         behind (place_of visit) visits (All-tail (λ (visit : Visit). IsTrue (names_place p visit)) visit visits named)
         (place-named p visit (All-head (λ (visit : Visit). IsTrue (names_place p visit)) visit visits named))
-
--- one segment more
-pub each-more : (P : ℕ → RunSegment → Type 0) (xs now : List RunSegment) (x : RunSegment) (k : ℕ) → length xs ≡ k + 1 → now ≡ xs ++ x ∷ [] →
-    ((i : ℕ) (none : RunSegment) → i ≤ k → P i (get_or xs i none)) → P (k + 1) x → (i : ℕ) (none : RunSegment) → i ≤ k + 1 → P i (get_or now i none)
-each-more P xs now x k count is each more i none h =
-    subst (λ (ys : List RunSegment). P i (get_or ys i none)) (sym is)
-    (elim (earlier_or_last i k h) [
-      | inl early ↦ subst (P i) (sym (get_or_append_left xs (x ∷ []) none i (omega arith))) (each i none early)
-      | inr last ↦ subst (λ (j : ℕ). P j (get_or (xs ++ x ∷ []) j none)) (sym last) (subst (P (k + 1)) (sym (get_or_push xs x none (k + 1) count)) more)
-    ])
-  where
-    earlier_or_last : (i k : ℕ) → i ≤ k + 1 → (i ≤ k) ⊎ (i ≡ k + 1)
-    earlier_or_last i k h = grind arith
 
 module _ (p : Problem) (t : VehicleType) (visits : List Visit) (valid : IsValid p) (allowed : IsValidType p t) (listed : IsListed p visits) where
   -- with the visit behind it, a run is the longer one

@@ -68,7 +68,7 @@ pickups-bound p (place ∷ clients) valid =
     let e = sum_by-cons (λ (place : ℕ). (client_at p place).pickup) place clients in
     omega (arith, c.pickup)
 
--- each client counts once: its delivery is on board before it, and its pickup behind it
+-- Each client counts once: its delivery is on board before it, and its pickup behind it. So four loads together would stay in range, too.
 load-bound : (p : Problem) (clients : List ℕ) (more : ℕ) → IsValid p →
     largest_load p clients (more + sum_by (λ place. (client_at p place).delivery) clients) ≤ more + length clients * largest
 load-bound p [] more valid = omega arith

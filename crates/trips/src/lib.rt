@@ -25,4 +25,4 @@ pub use piece::Piece;
 pub use run_segment::RunSegment;
 pub use trip::{Trip, trips_of};
 pub use trip_segment::{RouteSegment, TripSegment};
-pub use whole_route::{WholeRoute, ended, whole_of};
+pub use whole_route::{WholeRoute, whole_of};

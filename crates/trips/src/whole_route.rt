@@ -65,8 +65,8 @@ fn before_end(
     so_far
 }
 
-/// The whole list, where the start with all visits is known. It reads one leg.
-pub fn ended(
+/// The whole list, from the start with all visits.
+fn ended(
     before: RunSegment,
     given: &ProblemData,
     vehicle_type: &VehicleType,
