@@ -1,5 +1,5 @@
 -- The lists of a lawful plan have no more visits than a vehicle can have.
-use Rattle.std.proofs.Common.{◌≡◌, ℕ, zero, suc, ◌+◌, ◌*◌, ◌<◌, ◌≤◌, ◌&&◌, Bool, true, cond, List, [], ◌∷◌, length, get_or, refl, ◌∙◌, ap, sym, subst, arith}
+use Rattle.std.proofs.Common.{◌≡◌, ℕ, zero, suc, ◌+◌, ◌*◌, ◌<◌, ◌≤◌, ◌&&◌, Bool, true, false, cond, List, [], ◌∷◌, length, get_or, refl, ◌∙◌, ap, sym, subst, arith}
 use Rattle.std.specs.Prelude.{◌==◌, All, IsTrue, count_by, nat_le, sum_by, zip}
 use Rattle.std.specs.List.{list_all, range_with_len}
 use Rattle.std.proofs.lemmas.Bool.Decides.{nat_tests}
@@ -23,8 +23,8 @@ use Rattle.trips.proofs.Quantities.{at_each}
 use Rattle.route_cache.specs.inside.Shapes.{reload_of}
 use Rattle.route_cache.specs.Marks.{reloads_in}
 use Rattle.route_cache.proofs.Counting.{reloads-cons}
-use Rattle.std.proofs.lemmas.List.{get_or-map}
-use Rattle.std.proofs.Common.{length-map}
+use Rattle.std.proofs.lemmas.List.{get_or-map, length-map}
+
 use Rattle.route_cache.proofs.Types.{no_type}
 
 first-of : (a b : Bool) → (a && b) ≡ true → a ≡ true
@@ -112,7 +112,7 @@ type-reloads p number valid =
 -- each list has as many reloads as its type allows
 reloads-few : (p : Problem) (routes : Routes) (i : ℕ) (d : List Visit) → IsValid p → IsLawful p routes → i < length routes → reloads_in (get_or routes i d) ≤ most_reloads
 reloads-few p routes i d valid facts inside =
-    let here : i < length (fleet p) = omega (arith, facts.one_list_each, length-map (type_at p) (types_of_vehicles p)) in
+    let here : i < length (fleet p) = omega (arith, facts.one_list_each, length-map (types_of_vehicles p) (type_at p)) in
     let none : VehicleType × List Visit = (no_type, d) in
     let pair = get_or-zip (fleet p) routes i none here inside in
     let both : reloads_as_allowed (get_or (zip (fleet p) routes) i none).0 (get_or (zip (fleet p) routes) i none).1 ≡ true =
