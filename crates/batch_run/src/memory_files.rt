@@ -12,8 +12,8 @@ use problem_data::NoMemory;
 use std::alloc::Global;
 use std::marker::Model;
 
-/// Files in memory. A name that wasn't set is absent. Its loads and stores are counted together, and the k-th of them
-/// fails where the k-th item of a list says so.
+/// Files in memory. A name that wasn't set is absent. Its loads and stores are counted together, and the k-th of them fails where
+/// the k-th item of a list says so.
 #[derive(Debug, Drop)]
 pub struct MemoryFiles {
     named: NamedBytes,
@@ -45,8 +45,8 @@ fn takes_failure(failing: &[bool], calls: &mut usize) -> bool
 }
 
 impl MemoryFiles {
-    /// Files that hold nothing. The k-th load or store fails where the k-th item is true; calls past the list's end don't
-    /// fail for this reason.
+    /// Files that hold nothing. The k-th load or store fails where the k-th item is true; calls past the list's end don't fail for
+    /// this reason.
     pub fn new(alloc: Global, failing: Vec<bool>) -> MemoryFiles
         ensures { result ≡ record { entries = []; faults = []; failing = failing.items } }
     {

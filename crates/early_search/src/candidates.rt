@@ -41,8 +41,7 @@ fn neighbours_of(near: &[Vec<u32>], client: u32) -> &[u32]
     }
 }
 
-/// Appends the moves of a client behind each neighbour, and to the front of the list that the
-/// neighbour begins.
+/// Appends the moves of a client behind each neighbour, and to the front of the list that the neighbour begins.
 fn append_to_neighbours(
     moves: &mut Vec<Candidate>,
     client: u32,
@@ -67,9 +66,8 @@ fn append_to_unused(moves: &mut Vec<Candidate>, client: u32, types: u32) -> Resu
     Ok(())
 }
 
-/// The candidates of a pass that move one client: for each client of the order, by each of its
-/// neighbours and then by each vehicle type. Neighbours are given as a list for each place. Refused
-/// only where memory runs out.
+/// The candidates of a pass that move one client: for each client of the order, by each of its neighbours and then by each vehicle
+/// type. Neighbours are given as a list for each place. Refused only where memory runs out.
 pub fn client_candidates(
     alloc: Global,
     given: &ProblemData,

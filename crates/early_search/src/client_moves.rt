@@ -1,5 +1,5 @@
-//! Moves of one client in a lawful plan whose lists have clients alone: a move is made, costed
-//! anew, and taken back where it doesn't cost less.
+//! Moves of one client in a lawful plan whose lists have clients alone: a move is made, costed anew, and taken back where it
+//! doesn't cost less.
 ghost use Rattle.std.specs.Prelude.{◌≡◌, ◌==◌, ◌&&◌, ◌<◌, ◌≤◌, [], ◌∷◌, IfOk, IsTrue, OnErr, OnOk, flat_map, length, not, option_map, pos, slice_index_or, slice_set, unwrap_or};
 ghost use Rattle.std.specs.List.{position};
 ghost use Rattle.problem_data.specs.declared.problem.Problem.{Problem};
@@ -194,8 +194,7 @@ fn changes_behind(
     Ok(Some(changes_of(from, left, to, joined)))
 }
 
-/// The changes that move the client directly before another one that is the first of its list,
-/// where both are visited.
+/// The changes that move the client directly before another one that is the first of its list, where both are visited.
 fn changes_before(
     alloc: Global,
     plan: &[VisitList],
@@ -220,8 +219,7 @@ fn changes_before(
     Ok(Some(changes_of(from, left, to, joined)))
 }
 
-/// The changes that move the client to the least unused vehicle of a type, where it is visited and
-/// there is such a vehicle.
+/// The changes that move the client to the least unused vehicle of a type, where it is visited and there is such a vehicle.
 fn changes_to_unused(
     alloc: Global,
     given: &ProblemData,
@@ -274,8 +272,7 @@ fn exchange(plan: &mut [VisitList], change: &mut Change)
     mem::swap(&mut plan[change.vehicle], &mut change.visits);
 }
 
-/// Makes the changes of a plan, and takes them back where the plan doesn't cost less then. Returns
-/// the new cost where they stay.
+/// Makes the changes of a plan, and takes them back where the plan doesn't cost less then. Returns the new cost where they stay.
 fn change_if_cheaper(
     given: &ProblemData,
     plan: &mut [VisitList],
@@ -306,11 +303,10 @@ fn change_if_cheaper(
     None
 }
 
-/// Tries the move of one client: where it applies and the plan then costs less, the plan is
-/// changed to what the move makes of it, and its cost is returned. Else the plan is left, and
-/// nothing is returned. Conditions: the plan is lawful, its lists have clients alone, and it costs
-/// `cost`; each weight is at most 10^9; and the candidate moves a client of the problem. Refused
-/// only where memory runs out; the plan is then unchanged.
+/// Tries the move of one client: where it applies and the plan then costs less, the plan is changed to what the move makes of it,
+/// and its cost is returned. Else the plan is left, and nothing is returned. Conditions: the plan is lawful, its lists have clients
+/// alone, and it costs `cost`; each weight is at most 10^9; and the candidate moves a client of the problem. Refused only where
+/// memory runs out; the plan is then unchanged.
 pub fn improved_by(
     alloc: Global,
     given: &ProblemData,

@@ -1,5 +1,5 @@
-//! The plain descent of a plan whose lists have clients alone: pass after pass over the moves of
-//! one client, until none lowers the cost.
+//! The plain descent of a plan whose lists have clients alone: pass after pass over the moves of one client, until none lowers the
+//! cost.
 ghost use Rattle.std.specs.Prelude.{◌≡◌, All, IfOk, OnOk, is_some, pos};
 ghost use Rattle.routing_model.specs.Cost.{solution_cost};
 ghost use Rattle.search_model.specs.Descent.{after_pass, after_try, improved, takes_some};
@@ -20,8 +20,7 @@ use search_model::Candidate;
 use std::alloc::Global;
 use vrp_num::Xor128;
 
-/// Tries a candidate, which is taken where the plan then costs less. Returns what the plan costs
-/// then, and whether it was taken.
+/// Tries a candidate, which is taken where the plan then costs less. Returns what the plan costs then, and whether it was taken.
 fn try_candidate(
     alloc: Global,
     given: &ProblemData,
@@ -46,9 +45,9 @@ fn try_candidate(
     }
 }
 
-/// A pass over the candidates: each is tried, in order. Returns what the plan costs then, and
-/// whether one was taken. Conditions: the plan is lawful, its lists have clients alone, and it costs
-/// `cost`; each weight is at most 10^9; and the candidates move clients of the problem.
+/// A pass over the candidates: each is tried, in order. Returns what the plan costs then, and whether one was taken. Conditions:
+/// the plan is lawful, its lists have clients alone, and it costs `cost`; each weight is at most 10^9; and the candidates move
+/// clients of the problem.
 fn pass(
     alloc: Global,
     given: &ProblemData,
@@ -77,8 +76,7 @@ fn pass(
     Ok((cost, taken))
 }
 
-/// Pass after pass over the candidates, until one takes nothing. Conditions: those of a pass.
-/// Refused only where memory runs out.
+/// Pass after pass over the candidates, until one takes nothing. Conditions: those of a pass. Refused only where memory runs out.
 fn descend(
     alloc: Global,
     given: &ProblemData,
@@ -114,8 +112,8 @@ fn copied_lists(alloc: Global, plan: &Solution) -> Result<Vec<VisitList>, NoMemo
     Ok(lists)
 }
 
-/// The plan descended in a random order of the clients. Conditions: it is lawful, and its lists
-/// have clients alone. Refused only where memory runs out; some words may then have been drawn.
+/// The plan descended in a random order of the clients. Conditions: it is lawful, and its lists have clients alone. Refused only
+/// where memory runs out; some words may then have been drawn.
 pub fn random_descent(
     alloc: Global,
     given: &ProblemData,

@@ -7,9 +7,8 @@ ghost use Rattle.search_model.specs.Neighbours.{near, neighbours, neighbours_of,
 use problem_data::{NoMemory, ProblemData, Reads, Steps, leg};
 use std::alloc::Global;
 
-/// How far a client is after another, in thousandths of a unit of distance: the distance, and the
-/// weighted wait and time warp of a vehicle that drives from the one to the other. See `near`.
-/// Conditions: both are clients, and each weight is at most 100,000.
+/// How far a client is after another, in thousandths of a unit of distance: the distance, and the weighted wait and time warp of a
+/// vehicle that drives from the one to the other. See `near`. Conditions: both are clients, and each weight is at most 100,000.
 fn near(
     given: &ProblemData,
     from: u32,
@@ -96,8 +95,7 @@ fn places_of_keys(alloc: Global, keys: &[(u64, u32)]) -> Result<Vec<u32>, NoMemo
     Ok(places)
 }
 
-/// The `count` nearest of the other clients, by proximity and then by place; all of them where
-/// there are fewer.
+/// The `count` nearest of the other clients, by proximity and then by place; all of them where there are fewer.
 fn nearest(
     alloc: Global,
     given: &ProblemData,
@@ -130,10 +128,9 @@ fn empty_lists(alloc: Global, count: usize) -> Result<Vec<Vec<u32>>, NoMemory>
     Ok(lists)
 }
 
-/// The neighbour list of each place: a client's has the `count` nearest of the other clients, by
-/// proximity and then by place, and a depot's is empty. A unit of wait and one of time warp weigh
-/// `wait_weight` and `warp_weight` thousandths of a unit of distance. Condition: each weight is at
-/// most 100,000. Refused only where memory runs out.
+/// The neighbour list of each place: a client's has the `count` nearest of the other clients, by proximity and then by place, and a
+/// depot's is empty. A unit of wait and one of time warp weigh `wait_weight` and `warp_weight` thousandths of a unit of distance.
+/// Condition: each weight is at most 100,000. Refused only where memory runs out.
 pub fn near_clients(
     alloc: Global,
     given: &ProblemData,

@@ -17,8 +17,7 @@ pub const FIRST_WEIGHTS: Weights = Weights {
     distance: 6,
 };
 
-/// What a plan costs, given by its lists. Conditions: it is lawful, its lists have clients alone,
-/// and each weight is at most 10^9.
+/// What a plan costs, given by its lists. Conditions: it is lawful, its lists have clients alone, and each weight is at most 10^9.
 pub fn cost_of_lists(
     given: &ProblemData,
     plan: &[VisitList],
@@ -43,8 +42,7 @@ fn is_feasible(given: &ProblemData, solution: &Solution, reads: &mut Steps<Reads
     excess.load == 0 && excess.warp == 0 && excess.distance == 0
 }
 
-/// What a plan costs by the first weights. Conditions: it is lawful, and its lists have clients
-/// alone.
+/// What a plan costs by the first weights. Conditions: it is lawful, and its lists have clients alone.
 fn first_cost(given: &ProblemData, solution: &Solution, reads: &mut Steps<Reads>) -> i128
     requires { IsClientPlan given.now solution.now.routes }
     ensures { result ≡ pos (solution_cost given.now FIRST_WEIGHTS solution.now.routes) }
@@ -53,8 +51,7 @@ fn first_cost(given: &ProblemData, solution: &Solution, reads: &mut Steps<Reads>
     solution_cost(given, solution, FIRST_WEIGHTS, reads)
 }
 
-/// What a plan costs by the first weights, where it is feasible. Conditions: it is lawful, and its
-/// lists have clients alone.
+/// What a plan costs by the first weights, where it is feasible. Conditions: it is lawful, and its lists have clients alone.
 pub fn cost_if_feasible(
     given: &ProblemData,
     solution: &Solution,

@@ -45,9 +45,8 @@ pub fn places_of_keys(alloc: Global, keys: &[(u32, u32)]) -> Result<Vec<u32>, No
     Ok(places)
 }
 
-/// A random order of the clients' places: a word is drawn for each client by ascending place, and
-/// the places are sorted by (word, place). Refused only where memory runs out; some words may then
-/// have been drawn.
+/// A random order of the clients' places: a word is drawn for each client by ascending place, and the places are sorted by (word,
+/// place). Refused only where memory runs out; some words may then have been drawn.
 pub fn random_order(
     alloc: Global,
     given: &ProblemData,
@@ -208,8 +207,8 @@ pub fn dealt(alloc: Global, vehicles: u32, clients: &[u32]) -> Result<Solution, 
 
 /// The random plan that the generator's next words give: a random order of the clients is walked, required clients and a member of
 /// each required group are chosen, others by a draw, and the chosen are dealt out in order, to each vehicle their number divided by
-/// that of the vehicles and rounded up, until none is left. It is lawful, and its lists have clients alone. Refused only where memory
-/// runs out; some words may then have been drawn.
+/// that of the vehicles and rounded up, until none is left. It is lawful, and its lists have clients alone. Refused only where
+/// memory runs out; some words may then have been drawn.
 pub fn random_solution(
     alloc: Global,
     given: &ProblemData,

@@ -77,10 +77,9 @@ fn found_with_two(
     }
 }
 
-/// Searches a problem by a seed: the candidates are the seed's random solution and, where an
-/// iteration is asked for, that solution descended by moving one client at a time, in a random
-/// order of the clients. The best is the feasible one of less cost, the first on a tie. At most one
-/// iteration is done. Refused only where memory runs out.
+/// Searches a problem by a seed: the candidates are the seed's random solution and, where an iteration is asked for, that solution
+/// descended by moving one client at a time, in a random order of the clients. The best is the feasible one of less cost, the first
+/// on a tie. At most one iteration is done. Refused only where memory runs out.
 pub fn early_search<R: Threads + Sync>(
     rt: &R,
     alloc: Global,

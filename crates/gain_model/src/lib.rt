@@ -1,5 +1,5 @@
-//! Gains of moves, what the operators that find them have to answer and to keep, and how many legs they may read. Definitions, which
-//! contracts cite, with the parts of new lists as plain types.
+//! Gains of moves, what the operators that find them have to answer and to keep, and how many legs they may read. Definitions,
+//! which contracts cite, with the parts of new lists as plain types.
 #![tactic(auto)]
 
 mod laws;

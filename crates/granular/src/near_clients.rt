@@ -73,8 +73,8 @@ fn lists_of(
     Ok(lists)
 }
 
-/// The neighbour lists: each client's has the k nearest of the other clients, by proximity and then by place; all of them where there
-/// are fewer.
+/// The neighbour lists: each client's has the k nearest of the other clients, by proximity and then by place; all of them where
+/// there are fewer.
 ///
 /// The proximity of two clients is the smaller one of their two orders' numbers: the distance from the one to the other, in
 /// thousandths, with the wait and the time warp that a vehicle has at least, by their weights. It is computed for all pairs side by

@@ -96,13 +96,11 @@ fn plan_excess(given: &ProblemData, routes: &[VisitList], reads: &mut Steps<Read
     excess
 }
 
-/// What a plan exceeds: the sums over its used vehicles of their excess loads, of their time warp
-/// with excess duration, and of their excess distances. The plan is feasible exactly where all are
-/// 0 and it is lawful.
+/// What a plan exceeds: the sums over its used vehicles of their excess loads, of their time warp with excess duration, and of
+/// their excess distances. The plan is feasible exactly where all are 0 and it is lawful.
 ///
-/// Conditions: there is one list for each vehicle, each names existing places, is tidy and has no
-/// more visits than a vehicle can have, and no client stands twice. For each vehicle it reads at most one leg more
-/// than there are visits.
+/// Conditions: there is one list for each vehicle, each names existing places, is tidy and has no more visits than a vehicle can
+/// have, and no client stands twice. For each vehicle it reads at most one leg more than there are visits.
 pub fn assess(given: &ProblemData, solution: &Solution, reads: &mut Steps<Reads>) -> Assessment
     requires { IsDrivablePlan given.now solution.now.routes }
     ensures assessment { result ≡ assessment given.now solution.now.routes }

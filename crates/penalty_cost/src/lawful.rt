@@ -41,8 +41,7 @@ fn with_visit(tidiness: Tidiness, visit: Visit) -> Tidiness
     }
 }
 
-/// Whether a list is tidy: each reload stands directly behind a client, and some client comes
-/// after it.
+/// Whether a list is tidy: each reload stands directly behind a client, and some client comes after it.
 fn is_tidy(visits: &[Visit]) -> bool
     ensures { result ≡ is_tidy visits.now }
 {
@@ -280,12 +279,12 @@ fn all_reloads_as_allowed(given: &ProblemData, routes: &[VisitList]) -> bool
     true
 }
 
-/// Whether a plan is lawful: no client is visited twice, each required client is visited, exactly
-/// one member of each required group and at most one of another, each list is tidy, and its reloads
-/// are at depots that its vehicle's type allows, at most in the type's number.
+/// Whether a plan is lawful: no client is visited twice, each required client is visited, exactly one member of each required group
+/// and at most one of another, each list is tidy, and its reloads are at depots that its vehicle's type allows, at most in the
+/// type's number.
 ///
-/// Conditions: there is one list for each vehicle, and each visit names a place of its vehicle_type. It
-/// takes one byte for each place; refused only where memory runs out.
+/// Conditions: there is one list for each vehicle, and each visit names a place of its vehicle_type. It takes one byte for each
+/// place; refused only where memory runs out.
 pub fn is_lawful(alloc: Global, given: &ProblemData, solution: &Solution) -> Result<bool, NoMemory>
     requires one_list_each { length solution.now.routes ≡ vehicle_count given.now }
     requires named { IsTrue (names_places given.now solution.now.routes) }

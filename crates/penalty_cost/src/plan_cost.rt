@@ -14,13 +14,12 @@ use crate::vehicle_cost::vehicle_cost;
 use problem_data::{ProblemData, Reads, Solution, Steps, Visit, VisitList};
 use routing_model::Weights;
 
-/// What a vehicle costs with this list (PyVRP's penalised cost): its fixed cost, its distance and
-/// its duration at their unit costs, and its weighted excess load, time warp with excess duration,
-/// and excess distance; nothing where the list has no client. It drives from the start of least
-/// time warp and then of least duration.
+/// What a vehicle costs with this list (PyVRP's penalised cost): its fixed cost, its distance and its duration at their unit costs,
+/// and its weighted excess load, time warp with excess duration, and excess distance; nothing where the list has no client. It
+/// drives from the start of least time warp and then of least duration.
 ///
-/// Conditions: the vehicle is in range, the list names existing places, is tidy and has no more
-/// visits than a vehicle can have, and no weight exceeds 10^9. It reads at most one leg more than there are visits.
+/// Conditions: the vehicle is in range, the list names existing places, is tidy and has no more visits than a vehicle can have, and
+/// no weight exceeds 10^9. It reads at most one leg more than there are visits.
 pub fn route_cost(
     given: &ProblemData,
     vehicle: u32,
@@ -58,12 +57,10 @@ fn vehicles_cost(
     cost
 }
 
-/// What a plan costs, given by its lists: what its vehicles cost, and the prizes of the clients that
-/// it doesn't visit.
+/// What a plan costs, given by its lists: what its vehicles cost, and the prizes of the clients that it doesn't visit.
 ///
-/// Conditions: there is one list for each vehicle, each names existing places, is tidy and has no
-/// more visits than a vehicle can have, no client stands twice, and no weight exceeds 10^9. For each vehicle it reads
-/// at most one leg more than there are visits.
+/// Conditions: there is one list for each vehicle, each names existing places, is tidy and has no more visits than a vehicle can
+/// have, no client stands twice, and no weight exceeds 10^9. For each vehicle it reads at most one leg more than there are visits.
 pub fn routes_cost(
     given: &ProblemData,
     routes: &[VisitList],

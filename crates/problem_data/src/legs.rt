@@ -8,9 +8,8 @@ use crate::problem::Leg;
 use crate::steps::{Reads, Steps};
 use crate::valid_problem::ProblemData;
 
-/// The leg from a place to a place, by the tables of a profile, in constant time. It is the only
-/// call that tells an entry of a table, and it counts one read. Condition: the profile and both
-/// places are in range. A leg from a place to itself is 0.
+/// The leg from a place to a place, by the tables of a profile, in constant time. It is the only call that tells an entry of a
+/// table, and it counts one read. Condition: the profile and both places are in range. A leg from a place to itself is 0.
 pub fn leg(given: &ProblemData, profile: u32, from: u32, to: u32, reads: &mut Steps<Reads>) -> Leg
     requires profile { profile < length given.now.profiles }
     requires from { from < place_count given.now }

@@ -49,8 +49,7 @@ pub struct Client {
     pub service: u64,
     /// When its goods are at the depot: its trip doesn't depart earlier.
     pub release: u64,
-    /// What is lost where it isn't visited. A client without a group and with prize 0 has to be
-    /// visited.
+    /// What is lost where it isn't visited. A client without a group and with prize 0 has to be visited.
     pub prize: u64,
     /// The number of its group, if it is in one.
     pub group: Option<u32>,
@@ -108,8 +107,7 @@ impl Model for Matrix {
 impl Matrix {
     ghost use Rattle.problem_data.specs.Matrix.{entry};
 
-    /// The table of these entries, row by row. It takes no memory. Condition: there are `size`
-    /// times `size` entries.
+    /// The table of these entries, row by row. It takes no memory. Condition: there are `size` times `size` entries.
     pub fn new(size: u32, entries: Vec<u32>) -> Matrix
         requires { length entries.items ≡ size * size }
         ensures size { result.size ≡ size }
@@ -146,8 +144,7 @@ pub struct Profile {
     pub durations: Matrix,
 }
 
-/// A routing problem, with what PyVRP's model has (Wouda, Lan and Kool 2024). Depots are the
-/// places from 0 on, and clients follow.
+/// A routing problem, with what PyVRP's model has (Wouda, Lan and Kool 2024). Depots are the places from 0 on, and clients follow.
 #[derive(Drop)]
 pub struct Problem {
     /// Where each place lies.

@@ -8,8 +8,8 @@ use std::thread::Threads;
 /// What a counter of legs counts: reads of a leg.
 pub struct Reads;
 
-/// A counter of steps of the kind `L`, which contracts see as a number. It can be neither copied
-/// nor cloned, and its last value is 2^64 - 1.
+/// A counter of steps of the kind `L`, which contracts see as a number. It can be neither copied nor cloned, and its last value is
+/// 2^64 - 1.
 #[derive(Drop)]
 pub struct Steps<L> {
     count: u64,
@@ -25,8 +25,7 @@ impl<L> Model for Steps<L> {
 }
 
 impl Steps<Reads> {
-    /// A counter at 0. It asks for the runtime, so a call that isn't handed one can't make a
-    /// counter of its own.
+    /// A counter at 0. It asks for the runtime, so a call that isn't handed one can't make a counter of its own.
     pub fn new(rt: &impl Threads) -> Steps<Reads>
         ensures { result ≡ 0 }
     {

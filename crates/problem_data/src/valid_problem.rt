@@ -12,8 +12,8 @@ use std::alloc::Global;
 use std::marker::Model;
 use std::ops::Range;
 
-/// A valid problem, ready to be worked on. Contracts see the problem. Beside it stand tables that
-/// are made once, so each look-up takes constant time.
+/// A valid problem, ready to be worked on. Contracts see the problem. Beside it stand tables that are made once, so each look-up
+/// takes constant time.
 #[derive(Drop)]
 pub struct ProblemData {
     problem: Problem,
@@ -33,8 +33,7 @@ impl Model for ProblemData {
 }
 
 impl ProblemData {
-    /// The problem with its tables, in time linear in its places, types and vehicles. Refused only
-    /// where memory runs out.
+    /// The problem with its tables, in time linear in its places, types and vehicles. Refused only where memory runs out.
     pub fn new(alloc: Global, problem: Problem) -> Result<ProblemData, NoMemory>
         requires { IsValid problem }
         ensures { IfOk result (λ r. r ≡ problem) }
@@ -121,8 +120,7 @@ impl ProblemData {
         &self.problem.clients.items()[place as usize - depots]
     }
 
-    /// The one visit that a place can have: its client's, or a reload at its depot. Condition: the
-    /// place is in range.
+    /// The one visit that a place can have: its client's, or a reload at its depot. Condition: the place is in range.
     pub fn visit_of(&self, place: u32) -> &[Visit]
         requires { place < place_count self.now }
         ensures { result.now ≡ (if is_client_place self.now place then Visit.Client place else Visit.Reload place) ∷ [] }

@@ -149,11 +149,11 @@ fn deliver<O: Sink, E: Sink>(texts: &Texts, out: &mut O, err: &mut E) -> u8
 
 /// Runs the command.
 ///
-/// The words are `--seed S --max_iterations N NAME`, N being 0 or 1. The instance is loaded from the files, read and searched; its plan
-/// and the table are put to `out`, and before that the line of its fault, if it has one, to `err`.
+/// The words are `--seed S --max_iterations N NAME`, N being 0 or 1. The instance is loaded from the files, read and searched; its
+/// plan and the table are put to `out`, and before that the line of its fault, if it has one, to `err`.
 ///
-/// The status is 2 where the words are wrong, 3 for want of memory (nothing was put then), 4 where an output failed, 1 where
-/// the instance wasn't read, and else 0.
+/// The status is 2 where the words are wrong, 3 for want of memory (nothing was put then), 4 where an output failed, 1 where the
+/// instance wasn't read, and else 0.
 pub fn run_command<R: Threads + Sync, F: Files, O: Sink, E: Sink>(
     rt: &R,
     alloc: Global,

@@ -8,8 +8,8 @@ use std::alloc::{AllocError, Global};
 use std::fmt::Write;
 use vrplib_read::{Refusal, Rule};
 
-/// A line of the table: the name and the mark to the left of 24 and 2 characters, the cost and the
-/// iterations to the right of 20 and 10. A longer text stands whole.
+/// A line of the table: the name and the mark to the left of 24 and 2 characters, the cost and the iterations to the right of 20
+/// and 10. A longer text stands whole.
 pub fn table_line(
     alloc: Global,
     name: &str,
@@ -92,8 +92,7 @@ fn push_key(text: &mut String, rule: &Rule) -> Result<(), AllocError>
     }
 }
 
-/// The line of an instance whose text is refused: the faulty line's number, and the number and
-/// name of the rule that it breaks.
+/// The line of an instance whose text is refused: the faulty line's number, and the number and name of the rule that it breaks.
 pub fn refused_line(alloc: Global, name: &str, refusal: &Refusal) -> Result<String, AllocError>
     ensures { IfOk result (λ text. string_bytes text ≡ refused_line program name.now refusal.now) }
 {

@@ -1,7 +1,7 @@
 //! Routes that keep what their beginnings and endings add up to, and views that they lend.
 //!
-//! A view stands for some stops and visits of a route, so that routes can be cut and put together anew in constant time. While a view
-//! lives, its route can't change.
+//! A view stands for some stops and visits of a route, so that routes can be cut and put together anew in constant time. While a
+//! view lives, its route can't change.
 #![tactic(auto)]
 
 mod backward;

@@ -49,7 +49,8 @@ impl<'d> Model for Route<'d> {
 }
 
 impl<'d> Route<'d> {
-    /// The empty list of a vehicle. Condition: the vehicle is in range. At most 16 legs are read. Refused only where memory runs out.
+    /// The empty list of a vehicle. Condition: the vehicle is in range. At most 16 legs are read. Refused only where memory runs
+    /// out.
     pub fn new(
         alloc: Global,
         given: &'d ProblemData,
@@ -63,8 +64,8 @@ impl<'d> Route<'d> {
         Route::with_visits(alloc, given, vehicle, &[], reads)
     }
 
-    /// The route of a vehicle with this list. Conditions: the vehicle is in range, and the list is tidy, names places that are there, and
-    /// isn't too long. With n visits it reads at most 16 · (n + 1) legs. Refused only where memory runs out.
+    /// The route of a vehicle with this list. Conditions: the vehicle is in range, and the list is tidy, names places that are
+    /// there, and isn't too long. With n visits it reads at most 16 · (n + 1) legs. Refused only where memory runs out.
     pub fn with_visits(
         alloc: Global,
         given: &'d ProblemData,
@@ -206,8 +207,8 @@ impl<'d> Route<'d> {
         }
     }
 
-    /// Gives the vehicle another list. Condition: the list is tidy, names places that are there, and has at most 2,079 visits. With n
-    /// visits it reads at most 16 · (n + 1) legs. Where memory runs out, the route is as it was.
+    /// Gives the vehicle another list. Condition: the list is tidy, names places that are there, and has at most 2,079 visits. With
+    /// n visits it reads at most 16 · (n + 1) legs. Where memory runs out, the route is as it was.
     pub fn set_visits(&mut self, visits: &[Visit], reads: &mut Steps<Reads>) -> Result<(), NoMemory>
         requires { IsListed self.old.problem visits.now }
         ensures ok { OnOk result (self.new ≡ record self.old { visits = visits.now }) }

@@ -1,5 +1,5 @@
-//! Clients at (3, 4), (6, 8) and (0, 2) from the depot, and vehicles of two types: one that costs 20 to use and two that cost nothing to
-//! use.
+//! Clients at (3, 4), (6, 8) and (0, 2) from the depot, and vehicles of two types: one that costs 20 to use and two that cost
+//! nothing to use.
 ghost use Rattle.std.specs.Prelude.{◌≡◌, [], IfOk};
 ghost use Rattle.sample_problem.specs.ThreeClients.{legs, plain_type, three_clients};
 

@@ -1,5 +1,5 @@
-//! A depot that is open from 0 to 100, two clients, of which the second one has its goods at 30, legs of 5 between all places, and one
-//! vehicle that may reload once.
+//! A depot that is open from 0 to 100, two clients, of which the second one has its goods at 30, legs of 5 between all places, and
+//! one vehicle that may reload once.
 ghost use Rattle.std.specs.Prelude.{◌≡◌, [], IfOk};
 ghost use Rattle.sample_problem.specs.TwoTrips.{early_client, fives, late_client, one_vehicle, the_depot, two_trips};
 

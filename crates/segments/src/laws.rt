@@ -1,8 +1,8 @@
 //! What the definitions say of themselves.
 ghost use Rattle.segments.specs.Bounds.{LoadsAreBounded, MergedDurationsAreBounded, ReleasedDurationsAreBounded};
 
-/// What two runs take, one behind the other, is at least what both take and the leg between them, and the warp at least both warps. A
-/// release keeps the duration, and takes nothing off the warp.
+/// What two runs take, one behind the other, is at least what both take and the leg between them, and the warp at least both warps.
+/// A release keeps the duration, and takes nothing off the warp.
 pub fn durations_are_at_least_those_of_their_parts()
     ensures merged { MergedDurationsAreBounded }
     ensures released { ReleasedDurationsAreBounded }

@@ -26,8 +26,7 @@ fn push_visits(text: &mut String, visits: &[Visit]) -> Result<(), AllocError>
     Ok(())
 }
 
-/// Adds the token of the vehicle's type, where the problem has more than one; types are numbered
-/// from 0, and their tokens from 1.
+/// Adds the token of the vehicle's type, where the problem has more than one; types are numbered from 0, and their tokens from 1.
 fn push_type(text: &mut String, problem: &Problem, type_number: usize) -> Result<(), AllocError>
     requires { type_number < length problem.now.types }
     ensures { OnOk result (string_bytes text.new ≡ string_bytes text.old ++ type_token problem.now type_number) }

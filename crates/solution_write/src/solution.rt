@@ -9,8 +9,7 @@ use problem_data::{NoMemory, Problem, Solution, Visit, VisitList, is_used};
 use std::alloc::{AllocError, Global};
 use std::fmt::Write;
 
-/// Adds the vehicle's line, where the vehicle is used, and says how many lines there are then.
-/// `written` is how many there were.
+/// Adds the vehicle's line, where the vehicle is used, and says how many lines there are then. `written` is how many there were.
 fn push_if_used(
     text: &mut String,
     problem: &Problem,
@@ -31,8 +30,8 @@ fn push_if_used(
     }
 }
 
-/// Adds the lines of the used ones among some vehicles of one type, and says how many lines there
-/// are then. `written` is how many there were.
+/// Adds the lines of the used ones among some vehicles of one type, and says how many lines there are then. `written` is how many
+/// there were.
 fn push_routes_of_type(
     text: &mut String,
     problem: &Problem,
@@ -76,10 +75,9 @@ fn push_cost(text: &mut String, cost: i128) -> Result<(), AllocError>
 
 /// The text of a plan with its cost, in the form of CVRPLIB's solution files.
 ///
-/// A used vehicle has a line `Route #k:`, where k counts the used vehicles from 1, and then, each
-/// after a space, `T` and its type's number from 1, where the problem has more than one type, and
-/// its visits: a client's place, or `|` and a depot's place for a reload. The last line is `Cost`
-/// and the cost. The plan has one list for each vehicle. Takes time linear in the text and in the
+/// A used vehicle has a line `Route #k:`, where k counts the used vehicles from 1, and then, each after a space, `T` and its type's
+/// number from 1, where the problem has more than one type, and its visits: a client's place, or `|` and a depot's place for a
+/// reload. The last line is `Cost` and the cost. The plan has one list for each vehicle. Takes time linear in the text and in the
 /// vehicles; fails only where memory runs out.
 pub fn write_solution(
     alloc: Global,

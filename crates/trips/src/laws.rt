@@ -21,7 +21,8 @@ pub fn routes_are_bounded_by_stops()
     ensures { RoutesAreBoundedByStops }
 {}
 
-/// Where a beginning of a tidy list and an ending of another are joined, at most one visit isn't tidy: the one that `tidy_joint` names.
+/// Where a beginning of a tidy list and an ending of another are joined, at most one visit isn't tidy: the one that `tidy_joint`
+/// names.
 pub fn joints_name_what_is_not_tidy()
     ensures { JointsTidy }
 {}

@@ -16,8 +16,8 @@ pub struct Trip {
     pub end: u32,
 }
 
-/// The trips of a list, in order: the runs of clients between reloads. An empty list has none. Condition: the list has no more visits
-/// than a vehicle can have. Refused only where memory runs out.
+/// The trips of a list, in order: the runs of clients between reloads. An empty list has none. Condition: the list has no more
+/// visits than a vehicle can have. Refused only where memory runs out.
 pub fn trips_of(alloc: Global, visits: &[Visit]) -> Result<SmallVec<Trip, 4>, NoMemory>
     requires { length visits.now ≤ most_visits }
     ensures places { IfOk result (λ r. r.items ≡ spans_from 0 (trips_in visits.now)) }

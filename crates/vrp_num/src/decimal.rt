@@ -25,10 +25,10 @@ pub enum NumberFault {
 impl Decimal {
     /// The number that the text spells.
     ///
-    /// The text is an optional sign, then digits with an optional point and optional further digits, or a point and
-    /// digits, then optionally `e` or `E`, an optional sign and digits. It is refused, in this order, where it is
-    /// another, where the number is above 10^12 in size, and where it is not a multiple of a millionth. The number of
-    /// digits and the exponent may be of any size.
+    /// The text is an optional sign, then digits with an optional point and optional further digits, or a point and digits, then
+    /// optionally `e` or `E`, an optional sign and digits. It is refused, in this order, where it is another, where the number is
+    /// above 10^12 in size, and where it is not a multiple of a millionth. The number of digits and the exponent may be of any
+    /// size.
     pub fn read(text: &[u8]) -> Result<Decimal, NumberFault>
         ensures { result ≡ read text.now }
     {

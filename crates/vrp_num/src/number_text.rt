@@ -119,8 +119,8 @@ impl<'a> NumberText<'a> {
         }
     }
 
-    /// How many digits stand before the place so many digits behind the point, which the exponent moves. An exponent above
-    /// 2^64 - 1 moves it past all digits, and counts as that number.
+    /// How many digits stand before the place so many digits behind the point, which the exponent moves. An exponent above 2^64 - 1
+    /// moves it past all digits, and counts as that number.
     fn place(&self, behind_point: u64) -> u128
         requires { AllDigits 10 self.now.exponent }
         ensures { let exponent = min (digits_value 10 self.now.exponent) u64.MAX in

@@ -5,8 +5,8 @@ ghost use Rattle.vrp_num.specs.Rounding.{factor, rounded, square, distance, IsCu
 use crate::decimal::Decimal;
 use crate::square_root::root;
 
-/// How a decimal number or a distance becomes a whole one: it is taken once, or as often as the mode's factor says, and
-/// then cut or rounded (the modes of PyVRP: Wouda, Lan and Kool 2024).
+/// How a decimal number or a distance becomes a whole one: it is taken once, or as often as the mode's factor says, and then cut or
+/// rounded (the modes of PyVRP: Wouda, Lan and Kool 2024).
 #[derive(Clone, Copy, Debug, PartialEq, Eq)]
 pub enum Rounding {
     /// To the nearest number, halves up.
@@ -34,8 +34,8 @@ impl Rounding {
     }
 }
 
-/// The distance of two points, as a whole number by the mode. A point's coordinates, across and up, are in millionths,
-/// and each is at most 10^12 in size.
+/// The distance of two points, as a whole number by the mode. A point's coordinates, across and up, are in millionths, and each is
+/// at most 10^12 in size.
 ///
 /// With the mode `Round` this is `EUC_2D` of TSPLIB 95, section 2.1.
 pub fn euclid(mode: Rounding, a: (i64, i64), b: (i64, i64)) -> u64
@@ -93,8 +93,8 @@ fn cut_root(square: u128) -> u64
     root(in_units(square))
 }
 
-/// A number in millionths of millionths, cut to a whole number.
-/// Most numbers, divided by 2^12, fit 64 bits, and are quickly divided by 5^12.
+/// A number in millionths of millionths, cut to a whole number. Most numbers, divided by 2^12, fit 64 bits, and are quickly divided
+/// by 5^12.
 fn in_units(number: u128) -> u128
     ensures { result ≡ number / 10 ^ 12 }
 {

@@ -19,8 +19,8 @@ pub struct Spelled {
 impl Spelled {
     /// The number that the text spells, or none where it spells none.
     ///
-    /// The text is an optional sign, then digits with an optional point and optional further digits, or a point and
-    /// digits, then optionally `e` or `E`, an optional sign and digits.
+    /// The text is an optional sign, then digits with an optional point and optional further digits, or a point and digits, then
+    /// optionally `e` or `E`, an optional sign and digits.
     pub fn of(text: &[u8]) -> Option<Spelled>
         ensures { result ≡ spelled text.now }
     {

@@ -24,8 +24,7 @@ impl Model for Xor128 {
 }
 
 impl Xor128 {
-    /// The generator that `seed` starts: the seed is the state's word w, and x, y and z are 521288629, 362436069 and
-    /// 123456789.
+    /// The generator that `seed` starts: the seed is the state's word w, and x, y and z are 521288629, 362436069 and 123456789.
     pub fn seeded(seed: u32) -> Xor128
         ensures { result ≡ seeded seed }
     {
@@ -39,8 +38,8 @@ impl Xor128 {
         Xor128 { x, y, z, w }
     }
 
-    /// The next word, from 0 to 2^32 - 1, and the generator goes on to the next state: with t = x ^ (x << 11), the words
-    /// x, y and z become y, z and w, and w becomes w ^ (w >> 19) ^ t ^ (t >> 8), which is the answer.
+    /// The next word, from 0 to 2^32 - 1, and the generator goes on to the next state: with t = x ^ (x << 11), the words x, y and z
+    /// become y, z and w, and w becomes w ^ (w >> 19) ^ t ^ (t >> 8), which is the answer.
     pub fn next(&mut self) -> u32
         ensures word { result ≡ next_word self.old }
         ensures state { self.new ≡ next_state self.old }

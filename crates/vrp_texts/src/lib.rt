@@ -1,5 +1,5 @@
-//! The texts that the solver prints: plans, tables, fault lines and generated instances. Definitions, which contracts cite, and what the
-//! text of a plan tells.
+//! The texts that the solver prints: plans, tables, fault lines and generated instances. Definitions, which contracts cite, and
+//! what the text of a plan tells.
 #![tactic(auto)]
 
 mod laws;

@@ -1,5 +1,5 @@
-//! The definitions of the instance text (TSPLIB 95, VRPLIB): what a text is read as, a problem or its first fault. Here stand
-//! the types that they speak of, and the law that the problem of each accepted text is valid.
+//! The definitions of the instance text (TSPLIB 95, VRPLIB): what a text is read as, a problem or its first fault. Here stand the
+//! types that they speak of, and the law that the problem of each accepted text is valid.
 #![tactic(auto)]
 
 mod field;

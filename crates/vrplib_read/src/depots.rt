@@ -73,8 +73,7 @@ fn has_client_like(reading: &Reading, depots: u32) -> bool
     false
 }
 
-/// How many depots there are, where they are the first nodes, leave one for a client, and have nothing that only a client
-/// may have.
+/// How many depots there are, where they are the first nodes, leave one for a client, and have nothing that only a client may have.
 pub(crate) fn depot_count(reading: &Reading) -> Option<u32>
     requires { 2 ≤ known_nodes reading.now }
     ensures depots { OfText reading.now (λ all. MatchOption result (has_bad_depots reading.now.mode all ≡ true) (λ count. (has_bad_depots reading.now.mode all ≡ false) × (depot_nodes reading.now.mode all ≡ counted 1 count))) }

@@ -51,21 +51,20 @@ fn read_lines(
     }
 }
 
-/// Reads the problem of an instance text (TSPLIB 95, VRPLIB), or names its first faulty line, from 1, and the first [`Rule`]
-/// that this line breaks, in the order of the rules' tests. A fault of the text as a whole is named at line 0, and one at
-/// its end, where a section has too few rows, at the number of lines plus one.
+/// Reads the problem of an instance text (TSPLIB 95, VRPLIB), or names its first faulty line, from 1, and the first [`Rule`] that
+/// this line breaks, in the order of the rules' tests. A fault of the text as a whole is named at line 0, and one at its end, where
+/// a section has too few rows, at the number of lines plus one.
 ///
-/// The text is lines of keywords with values, sections with rows of numbers, and `EOF`, which ends the reading and may be
-/// missing. Read are the keywords `DIMENSION`, `EDGE_WEIGHT_TYPE` (`EUC_2D` or `EXPLICIT`), `EDGE_WEIGHT_FORMAT`
-/// (`FULL_MATRIX`, `LOWER_ROW` or `UPPER_ROW`), `CAPACITY`, `VEHICLES`, `SERVICE_TIME`, `MAX_DURATION` and `MAX_DISTANCE`, and the
-/// sections `NODE_COORD_SECTION`, `DEMAND_SECTION`, `BACKHAUL_SECTION`, `TIME_WINDOW_SECTION`, `SERVICE_TIME_SECTION`,
+/// The text is lines of keywords with values, sections with rows of numbers, and `EOF`, which ends the reading and may be missing.
+/// Read are the keywords `DIMENSION`, `EDGE_WEIGHT_TYPE` (`EUC_2D` or `EXPLICIT`), `EDGE_WEIGHT_FORMAT` (`FULL_MATRIX`, `LOWER_ROW`
+/// or `UPPER_ROW`), `CAPACITY`, `VEHICLES`, `SERVICE_TIME`, `MAX_DURATION` and `MAX_DISTANCE`, and the sections
+/// `NODE_COORD_SECTION`, `DEMAND_SECTION`, `BACKHAUL_SECTION`, `TIME_WINDOW_SECTION`, `SERVICE_TIME_SECTION`,
 /// `RELEASE_TIME_SECTION`, `PRIZE_SECTION`, `EDGE_WEIGHT_SECTION`, `DEPOT_SECTION`, `MUTUALLY_EXCLUSIVE_GROUP_SECTION`,
 /// `PROFILE_SECTION` and `VEHICLE_TYPES_SECTION`; other keywords and sections are passed over. Numbers may have a point and an
 /// exponent, and are rounded by the mode where they are distances or times.
 ///
-/// A text has 2 to 2,048 nodes. The depots come first, and each other node is a client. What a section gives that isn't
-/// there is 0, a window from 0 to 10^12, or no group; without vehicle types there is one, of as many vehicles as clients or
-/// as `VEHICLES` says.
+/// A text has 2 to 2,048 nodes. The depots come first, and each other node is a client. What a section gives that isn't there is 0,
+/// a window from 0 to 10^12, or no group; without vehicle types there is one, of as many vehicles as clients or as `VEHICLES` says.
 ///
 /// [`ReadFault::NoMemory`] says that memory ran out; the text may then be a faulty one.
 pub fn read_instance(alloc: Global, bytes: &[u8], mode: Rounding) -> Result<Problem, ReadFault>

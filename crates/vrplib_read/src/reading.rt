@@ -18,8 +18,8 @@ use vrp_num::Rounding;
 use vrplib_model::{Position, Rule, Section};
 use vrplib_rows::{Keywords, Line, Rows, line_of};
 
-/// What the reader keeps of the lines read so far: the values of keywords, and the sections with their rows, in the order of
-/// the file.
+/// What the reader keeps of the lines read so far: the values of keywords, and the sections with their rows, in the order of the
+/// file.
 #[derive(Drop)]
 pub(crate) struct Reading {
     pub mode: Rounding,

@@ -1,5 +1,5 @@
-//! The lines of an instance text (TSPLIB 95, VRPLIB), judged one by one: what a line is, the values of keywords, and the rows of
-//! a section.
+//! The lines of an instance text (TSPLIB 95, VRPLIB), judged one by one: what a line is, the values of keywords, and the rows of a
+//! section.
 #![tactic(auto)]
 
 mod keywords;

@@ -69,8 +69,8 @@ fn profile_field(k: usize, number: u64) -> Field
     }
 }
 
-/// The k-th field of a vehicle type's row: type, count, capacity, start, end, the fixed cost and the unit costs, the shift,
-/// the two maxima, the profile, the reloads, and the nodes of reload depots.
+/// The k-th field of a vehicle type's row: type, count, capacity, start, end, the fixed cost and the unit costs, the shift, the two
+/// maxima, the profile, the reloads, and the nodes of reload depots.
 fn vehicle_field(k: usize, vehicles_left: u64) -> Field
     ensures field { (rows : List (List ℤ)) (n : ℕ) → vehicles_left ≡ most_vehicles - vehicle_count rows → k < length (fields vehicle_types_section rows n)
         → slice_get (fields vehicle_types_section rows n) k ≡ Some result }

@@ -1,5 +1,5 @@
-//! The lines of a text: it is cut at each line feed, one at the very end begins no line, and a carriage return directly before
-//! a cut is dropped.
+//! The lines of a text: it is cut at each line feed, one at the very end begins no line, and a carriage return directly before a
+//! cut is dropped.
 ghost use Rattle.std.specs.Prelude.{◌≡◌, ◌==◌, ◌<◌, ◌∷◌, length};
 ghost use Rattle.std.specs.List.{position_or_len};
 ghost use Rattle.std.specs.Str.Lines.{lines, strip_carriage_return};
