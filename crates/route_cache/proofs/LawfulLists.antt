@@ -24,7 +24,6 @@ use Rattle.route_cache.specs.inside.Shapes.{reload_of}
 use Rattle.route_cache.specs.Marks.{reloads_in}
 use Rattle.route_cache.proofs.Counting.{reloads-cons}
 use Rattle.std.proofs.lemmas.List.{get_or-map, length-map}
-
 use Rattle.route_cache.proofs.Types.{no_type}
 
 first-of : (a b : Bool) → (a && b) ≡ true → a ≡ true
