@@ -27,19 +27,23 @@ fn look(rt: &impl Abort, given: &ProblemData, route: &Route<'_>)
     assert_eq!(rt; route.trips().len(), 2);
     assert_eq!(rt; route.before(0).visits().len(), 0);
     assert_eq!(rt; route.after(4).visits().len(), 0);
-    assert_eq!(rt; route.after(4).distance(), 0);
     assert_eq!(rt; route.before(3).prizes(), 7);
-    assert_eq!(rt; route.before(2).distance(), 10);
-    assert_eq!(rt; route.after(2).distance(), 10);
     let alone = client_view(given, 1);
     assert_eq!(rt; alone.visits(), [Visit::Client(1)].as_slice());
     assert_eq!(rt; alone.prizes(), 7);
-    assert_eq!(rt; alone.distance(), 0);
-    assert_eq!(rt; alone.vehicle(), None);
     assert_eq!(rt;
         reload_view(given, 0).visits(),
         [Visit::Reload(0)].as_slice()
     );
+}
+
+/// Looks at distances of views.
+fn look_at_distances(rt: &impl Abort, route: &Route<'_>)
+    requires { route.now ≡ record { problem = two_trips; vehicle = 0; visits = Visit.Client 1 ∷ Visit.Reload 0 ∷ Visit.Client 2 ∷ [] } }
+{
+    assert_eq!(rt; route.before(2).distance(), 10);
+    assert_eq!(rt; route.after(2).distance(), 10);
+    assert_eq!(rt; route.after(4).distance(), 0);
 }
 
 /// Looks at what a view is.
@@ -78,9 +82,11 @@ fn views_of_two_trips(rt: HostRuntime) -> Result<(), Fail> {
     route.set_visits(&visits, &mut reads)?;
     look(&rt, &given, &route);
     look_at_positions(&rt, &route);
+    look_at_distances(&rt, &route);
     let middle = route.between(2, 2, &mut reads);
     assert_eq!(rt; middle.visits(), [Visit::Reload(0)].as_slice());
     merge_views(&rt, &route, &mut reads);
+    assert_eq!(rt; driven_between(&route, &mut reads), 10);
     Ok(())
 }
 
@@ -92,15 +98,4 @@ fn driven_between(route: &Route<'_>, reads: &mut Steps<Reads>) -> i64
     let view = route.between(1, 3, reads);
     view.segment();
     view.distance()
-}
-
-#[test]
-fn runs_of_visits_read_no_leg(rt: HostRuntime) -> Result<(), Fail> {
-    let alloc = rt.alloc();
-    let mut reads = Steps::new(&rt);
-    let given = problem_of_two_trips(alloc)?;
-    let visits = [Visit::Client(1), Visit::Reload(0), Visit::Client(2)];
-    let route = Route::with_visits(alloc, &given, 0, &visits, &mut reads)?;
-    assert_eq!(rt; driven_between(&route, &mut reads), 10);
-    Ok(())
 }
