@@ -1,16 +1,6 @@
-pub mod ChangedLists
-pub mod ClientCounts
-pub mod ClientLists
-pub mod ClientMoves
 pub mod DrawnKeys
-pub mod EarlyCandidates
-pub mod EarlyMoves
 pub mod FoundPlans
 pub mod GroupMarks
-pub mod MadeMoves
-pub mod Nearness
+pub mod OrderedPlaces
 pub mod RandomPlans
-pub mod ShortLists
-pub mod TriedMoves
-pub mod UnusedVehicles
 pub mod WalkSteps

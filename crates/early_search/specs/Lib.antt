@@ -1,4 +1,2 @@
-pub mod ClientMoves
-pub mod ClientPlans
 pub mod Found
 pub mod RandomPlan

@@ -1,10 +1,7 @@
-//! The early search: the random solution of a seed, and its descent by moving one client at a time, on every valid problem.
+//! The early search: the random solution of a seed, and its descent by the moves of a kit, on every valid problem.
 #![tactic(auto)]
 
-pub mod candidates;
-pub mod client_moves;
 mod descent;
-pub mod near_clients;
 mod plan_cost;
 pub mod random_plan;
 mod search;

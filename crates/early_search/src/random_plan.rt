@@ -3,12 +3,11 @@ ghost use Rattle.std.specs.Prelude.{◌≡◌, ◌+◌, ◌*◌, ◌<◌, ◌≤
 ghost use Rattle.std.specs.List.{range_with_len, slice_set};
 ghost use Rattle.problem_data.specs.Places.{group_at, is_client_place, vehicle_count};
 ghost use Rattle.problem_data.specs.Valid.{IsValid};
-ghost use Rattle.routing_model.specs.Lawful.{is_required_group};
+ghost use Rattle.routing_model.specs.Lawful.{is_lawful, is_required_group};
 ghost use Rattle.vrp_num.specs.Words.{state_after};
 ghost use Rattle.vrp_num.specs.Words as drawn;
 ghost use Rattle.random_model.specs.Draws.{client_order};
 ghost use Rattle.random_model.specs.RandomSolution as model;
-ghost use Rattle.early_search.specs.ClientPlans.{IsClientPlan};
 ghost use Rattle.early_search.specs.RandomPlan.{group_marks, choice_by_group, meaning, is_taken, state_past};
 
 use problem_data::{NoMemory, ProblemData, RouteList, Solution, Visit, VisitList};
@@ -207,8 +206,8 @@ pub fn dealt(alloc: Global, vehicles: u32, clients: &[u32]) -> Result<Solution, 
 
 /// The random plan that the generator's next words give: a random order of the clients is walked, required clients and a member of
 /// each required group are chosen, others by a draw, and the chosen are dealt out in order, to each vehicle their number divided by
-/// that of the vehicles and rounded up, until none is left. It is lawful, and its lists have clients alone. Refused only where
-/// memory runs out; some words may then have been drawn.
+/// that of the vehicles and rounded up, until none is left. It is lawful. Refused only where memory runs out; some words may
+/// then have been drawn.
 pub fn random_solution(
     alloc: Global,
     given: &ProblemData,
@@ -216,7 +215,7 @@ pub fn random_solution(
 ) -> Result<Solution, NoMemory>
     ensures solution { IfOk result (λ r. r.routes ≡ (model.random_solution given.now generator.old).value) }
     ensures state { OnOk result (generator.new ≡ (model.random_solution given.now generator.old).state) }
-    ensures planned { IfOk result (λ r. IsClientPlan given.now r.routes) }
+    ensures lawful { IfOk result (λ r. IsTrue (is_lawful given.now r.routes)) }
 {
     given.validity();
     let order = random_order(alloc, given, generator)?;

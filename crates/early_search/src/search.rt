@@ -1,13 +1,15 @@
 //! The search of at most one iteration: the random solution of the seed, and its descent.
-ghost use Rattle.std.specs.Prelude.{◌≡◌, IfOk, option_map};
+ghost use Rattle.std.specs.Prelude.{◌≡◌, IfOk, IsTrue, map, option_map};
 ghost use Rattle.routing_model.specs.Best.{IsFeasibleBest};
+ghost use Rattle.routing_model.specs.Lawful.{is_lawful};
+ghost use Rattle.search_model.specs.Kinds.{exchange_kinds};
 ghost use Rattle.command_model.specs.EarlySearch.{early_search, found_with, found_with_two};
-ghost use Rattle.early_search.specs.ClientPlans.{IsClientPlan};
 ghost use Rattle.early_search.specs.Found.{IsFoundAs, is_better_cost};
 
 use crate::descent::random_descent;
 use crate::plan_cost::cost_if_feasible;
 use crate::random_plan::random_solution;
+use move_core::{Kit, Operator};
 use problem_data::{NoMemory, ProblemData, Reads, Solution, Steps};
 use std::alloc::Global;
 use std::thread::Threads;
@@ -50,7 +52,7 @@ fn found_with(solution: Solution, cost: Option<i128>, iterations: u64) -> Found
 
 /// What is found with one solution, which counts where it is feasible.
 fn found_with_one(given: &ProblemData, solution: Solution, reads: &mut Steps<Reads>) -> Found
-    requires { IsClientPlan given.now solution.routes }
+    requires { IsTrue (is_lawful given.now solution.routes) }
     ensures { IsFoundAs (found_with given.now solution.routes) result }
 {
     let cost = cost_if_feasible(given, &solution, reads);
@@ -64,8 +66,8 @@ fn found_with_two(
     second: Solution,
     reads: &mut Steps<Reads>,
 ) -> Found
-    requires first { IsClientPlan given.now first.routes }
-    requires second { IsClientPlan given.now second.routes }
+    requires first { IsTrue (is_lawful given.now first.routes) }
+    requires second { IsTrue (is_lawful given.now second.routes) }
     ensures { IsFoundAs (found_with_two given.now first.routes second.routes) result }
 {
     let first_cost = cost_if_feasible(given, &first, reads);
@@ -78,15 +80,20 @@ fn found_with_two(
 }
 
 /// Searches a problem by a seed: the candidates are the seed's random solution and, where an iteration is asked for, that solution
-/// descended by moving one client at a time, in a random order of the clients. The best is the feasible one of less cost, the first
-/// on a tie. At most one iteration is done. Refused only where memory runs out.
+/// descended by the kit's moves, in a random order of the clients. The best is the feasible one of less cost, the first on a tie. At
+/// most one iteration is done.
+///
+/// Condition: the kit's kinds are the nine exchanges in order; they stay. Refused only where memory runs out.
 pub fn early_search<R: Threads + Sync>(
     rt: &R,
     alloc: Global,
     given: &ProblemData,
     seed: u32,
     iterations: u32,
+    kit: &mut Kit,
 ) -> Result<Found, NoMemory>
+    requires kinds { map kind_of kit.old.items ≡ exchange_kinds }
+    ensures kinds { map kind_of kit.new.items ≡ exchange_kinds }
     ensures found { IfOk result (IsFoundAs (early_search seed iterations given.now)) }
     ensures feasible { IsFeasibleBest given.now (early_search seed iterations given.now).best }
 {
@@ -96,6 +103,6 @@ pub fn early_search<R: Threads + Sync>(
     if iterations == 0 {
         return Ok(found_with_one(given, first, &mut reads));
     }
-    let second = random_descent(alloc, given, &first, &mut generator, &mut reads)?;
+    let second = random_descent(rt, alloc, given, &first, kit, &mut generator, &mut reads)?;
     Ok(found_with_two(given, first, second, &mut reads))
 }

@@ -2,10 +2,8 @@
 #![tactic(auto)]
 
 #[cfg(test)]
-mod candidates;
-#[cfg(test)]
-mod client_moves;
-#[cfg(test)]
 mod random_plan;
+#[cfg(test)]
+mod sample;
 #[cfg(test)]
 mod search;

@@ -1,13 +1,48 @@
 //! Three clients and vehicles of two types, of which the first costs 20 to use.
-use early_search::early_search;
-use problem_data::Visit;
-use sample_problem::problem_of_three_clients;
+ghost use Rattle.std.specs.Prelude.{◌≡◌, IfOk};
+ghost use Rattle.node_moves.specs.Exchanges.{exchange_kind};
+
+use crate::sample::sample;
+use early_search::{Found, early_search};
+use move_core::Operator;
+use node_moves::Exchange;
+use problem_data::{NoMemory, ProblemData, Visit};
+use std::alloc::Global;
 use std::test::Fail;
+use std::thread::Threads;
+
+/// What is found by seed 1, with a kit of the nine exchanges.
+fn found_after<R: Threads + Sync>(
+    rt: &R,
+    alloc: Global,
+    given: &ProblemData,
+    iterations: u32,
+) -> Result<Found, NoMemory> {
+    let boxed = |exchange: Exchange| -> Result<Box<dyn Operator + Send>, NoMemory>
+        ensures { IfOk result (λ operator. kind_of operator ≡ exchange_kind exchange.n exchange.m) }
+    {
+        let operator: Box<dyn Operator + Send> = Box::new(alloc, exchange)?;
+        Ok(operator)
+    };
+    let operators = [
+        boxed(Exchange::new(1, 0))?,
+        boxed(Exchange::new(2, 0))?,
+        boxed(Exchange::new(3, 0))?,
+        boxed(Exchange::new(1, 1))?,
+        boxed(Exchange::new(2, 1))?,
+        boxed(Exchange::new(3, 1))?,
+        boxed(Exchange::new(2, 2))?,
+        boxed(Exchange::new(3, 2))?,
+        boxed(Exchange::new(3, 3))?,
+    ];
+    let mut kit = Vec::from_array(alloc, operators)?;
+    early_search(rt, alloc, given, 1, iterations, &mut kit)
+}
 
 #[test]
 fn finds_the_random_solution(rt: HostRuntime) -> Result<(), Fail> {
-    let given = problem_of_three_clients(rt.alloc())?;
-    let found = early_search(&rt, rt.alloc(), &given, 1, 0)?;
+    let given = sample(rt.alloc())?;
+    let found = found_after(&rt, rt.alloc(), &given, 0)?;
     assert_eq!(rt; found.cost, Some(54));
     assert_eq!(rt; found.iterations, 0);
     let best = found.best.ok_or("nothing was found")?;
@@ -21,17 +56,17 @@ fn finds_the_random_solution(rt: HostRuntime) -> Result<(), Fail> {
 
 #[test]
 fn finds_the_descended_solution(rt: HostRuntime) -> Result<(), Fail> {
-    let given = problem_of_three_clients(rt.alloc())?;
-    let found = early_search(&rt, rt.alloc(), &given, 1, 1)?;
+    let given = sample(rt.alloc())?;
+    let found = found_after(&rt, rt.alloc(), &given, 1)?;
     assert_eq!(rt; found.cost, Some(20));
     assert_eq!(rt; found.iterations, 1);
     let best = found.best.ok_or("nothing was found")?;
     let routes = best.routes.items();
     assert_eq!(rt; routes.len(), 3);
     assert!(rt; routes[0].items().is_empty());
+    assert!(rt; routes[1].items().is_empty());
     assert!(rt;
-        routes[1].items() == [Visit::Client(1), Visit::Client(2), Visit::Client(3)].as_slice()
+        routes[2].items() == [Visit::Client(1), Visit::Client(2), Visit::Client(3)].as_slice()
     );
-    assert!(rt; routes[2].items().is_empty());
     Ok(())
 }

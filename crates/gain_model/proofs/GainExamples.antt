@@ -1,6 +1,6 @@
 -- An example of a gain: with a fixed cost of 50 the first vehicle becomes unused, and the plan costs 63 in place of 120.
 use Rattle.std.proofs.Common.{◌≡◌, ℕ, ◌≤◌, [], ◌∷◌, refl, lit≤, lit<, arith}
-use Rattle.std.specs.Prelude.{All, IsFalse, zero, suc, Some, None, negsuc, pos}
+use Rattle.std.specs.Prelude.{All, IsFalse, IsTrue, zero, suc, Some, None, negsuc, pos}
 use Rattle.std.proofs.lemmas.Bool.Decides.{nat_tests}
 use Rattle.std.proofs.lemmas.List.Elements.{All-cons, All-nil}
 use Rattle.list_words.specs.Lists.{is_in}
@@ -15,8 +15,9 @@ use Rattle.search_model.specs.declared.candidate.Target.TheVariants.{After}
 use Rattle.search_model.specs.declared.kind.Kind.TheVariants.{Exchange10}
 use Rattle.search_model.proofs.MoveExamples.{lists, visits}
 use Rattle.gain_model.specs.declared.part.Part.TheVariants.{Run, Client, Reload}
+use Rattle.gain_model.specs.CandidateVehicles.{vehicles_of}
 use Rattle.gain_model.specs.Gains.{GainState, GainSide, HasAmount, IsPartWithin, IsSideWithin, IsWithin, MayBeApplied, made, part_visits}
-use Rattle.gain_model.specs.Operators.{IsEvaluation, bettered}
+use Rattle.gain_model.specs.Operators.{HasItsVehicles, IsEvaluation, bettered}
 use Rattle.gain_model.specs.Proposals.{IsListedIn, IsRightFor, Lender, Proposed, SpeaksOf, side_vehicles, with_lists}
 
 abbrev p : Problem
@@ -88,8 +89,15 @@ candidate = Node Exchange10 1 (After 2)
 better : bettered p weights before candidate ≡ Some after
 better = rw (solution_cost-easy p weights before refl, solution_cost-easy p weights after refl) refl
 
+-- its two sides are the vehicles of the candidate
+abbrev IsOwn : GainSide → Type 0
+IsOwn side = IsTrue (is_in (vehicles_of p before candidate) side.vehicle)
+
+own : HasItsVehicles p before candidate saved
+own = All-cons IsOwn saved.first (receiver ∷ []) refl (All-cons IsOwn receiver [] refl (All-nil IsOwn))
+
 answer : IsEvaluation p weights before candidate (Some saved)
-answer = record { within = is_within; makes = better; amount = saved_amount }
+answer = record { within = is_within; makes = better; amount = saved_amount; vehicles = own }
 
 -- back again it costs more
 none_back : IsEvaluation p weights after (Node Exchange10 2 (After 1)) None

@@ -26,3 +26,5 @@ pub mod ThreePlaces
 pub mod UntouchedTries
 pub mod Ways
 pub mod OperatorAnswers
+pub mod ProposedMoves
+pub mod NewLists

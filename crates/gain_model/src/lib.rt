@@ -4,6 +4,7 @@
 
 mod laws;
 mod part;
+mod part_default;
 
 pub use laws::{
     bases_are_enough, kept_places_are_enough, passes_go_on, swaps_by_growth,

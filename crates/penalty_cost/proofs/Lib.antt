@@ -7,3 +7,11 @@ pub mod MissedPrizes
 pub mod PlanExcess
 pub mod TestedPlaces
 pub mod TestedVehicles
+pub mod CostChanges
+pub mod PrizeChanges
+pub mod CountChanges
+pub mod PartsOfViews
+pub mod GainsRight
+pub mod NewSides
+pub mod SideChanges
+pub mod WholeGains

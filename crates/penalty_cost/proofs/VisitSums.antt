@@ -37,10 +37,10 @@ one_more : (b : Bool) (n m : ℕ) → (cond b 1 0 + n) * m ≡ cond b m 0 + n * 
 one_more true n m = grind arith
 one_more false n m = grind arith
 
-shared : (a b m : ℕ) → (a + b) * m ≡ a * m + b * m
+pub shared : (a b m : ℕ) → (a + b) * m ≡ a * m + b * m
 shared a b m = grind arith
 
-either : (b : Bool) (m : ℕ) → cond (not b) m 0 + cond b m 0 ≡ m
+pub either : (b : Bool) (m : ℕ) → cond (not b) m 0 + cond b m 0 ≡ m
 either true m = omega arith
 either false m = omega arith
 
@@ -58,11 +58,11 @@ counts : (b : Bool) (n m : ℕ) → nat_le n 1 ≡ true → (b ≡ true → 1 �
 counts true n m once h = let k = h.0 refl in let one : n ≡ 1 = grind (arith, nat_tests) in ap (λ (k : ℕ). k * m) one ∙ omega arith
 counts false n m once h = ap (λ (k : ℕ). k * m) (h.1 refl) ∙ omega arith
 
-sum_by-same : {X : Type 0} (f g : X → ℕ) (xs : List X) → ((x : X) → f x ≡ g x) → sum_by f xs ≡ sum_by g xs
+pub sum_by-same : {X : Type 0} (f g : X → ℕ) (xs : List X) → ((x : X) → f x ≡ g x) → sum_by f xs ≡ sum_by g xs
 sum_by-same f g [] same = refl
 sum_by-same f g (x ∷ xs) same = sum_by-cons f x xs ∙ ap₂ (λ (m n : ℕ). m + n) (same x) (sum_by-same f g xs same) ∙ sym (sum_by-cons g x xs)
 
-sum_by-plus : {X : Type 0} (f g : X → ℕ) (xs : List X) → sum_by (λ x. f x + g x) xs ≡ sum_by f xs + sum_by g xs
+pub sum_by-plus : {X : Type 0} (f g : X → ℕ) (xs : List X) → sum_by (λ x. f x + g x) xs ≡ sum_by f xs + sum_by g xs
 sum_by-plus f g [] = refl
 sum_by-plus f g (x ∷ xs) =
     let a = sum_by-cons (λ y. f y + g y) x xs in
@@ -71,7 +71,7 @@ sum_by-plus f g (x ∷ xs) =
     let d = sum_by-plus f g xs in
     omega arith
 
-sum_by-none : {X : Type 0} (f : X → ℕ) (xs : List X) → ((x : X) → f x ≡ 0) → sum_by f xs ≡ 0
+pub sum_by-none : {X : Type 0} (f : X → ℕ) (xs : List X) → ((x : X) → f x ≡ 0) → sum_by f xs ≡ 0
 sum_by-none f [] none = refl
 sum_by-none f (x ∷ xs) none = let a = sum_by-cons f x xs in let b = none x in let c = sum_by-none f xs none in omega arith
 
@@ -116,7 +116,7 @@ visit-exchanged p g (Client place) named = within g (depot_count p) (length p.cl
 visit-exchanged p g (Reload depot) named = sum_by-none (λ c. 0) (client_places p) (λ c. refl)
 
 -- what the visits of a list add is what each client adds as often as it is visited there
-visits-exchanged : (p : Problem) (g : ℕ → ℕ) (visits : List Visit) → list_all (names_place p) visits ≡ true →
+pub visits-exchanged : (p : Problem) (g : ℕ → ℕ) (visits : List Visit) → list_all (names_place p) visits ≡ true →
     sum_by (λ c. count_by (is_visit_of c) visits * g c) (client_places p) ≡ at_visits g visits
 visits-exchanged p g [] named = sum_by-none (λ c. 0 * g c) (client_places p) (λ c. omega arith)
 visits-exchanged p g (visit ∷ rest) named =
@@ -153,7 +153,7 @@ visited-counted (visits ∷ rest) c =
     (any-counted (is_visit_of c) visits) (visited-counted rest c)
 
 -- where no client stands twice, each visited one counts once
-visited-once : (routes : Routes) (c m : ℕ) → nat_le (visit_count routes c) 1 ≡ true → visit_count routes c * m ≡ cond (is_visited routes c) m 0
+pub visited-once : (routes : Routes) (c m : ℕ) → nat_le (visit_count routes c) 1 ≡ true → visit_count routes c * m ≡ cond (is_visited routes c) m 0
 visited-once routes c m once = counts (is_visited routes c) (visit_count routes c) m once (visited-counted routes c)
 
 visited-sum : (p : Problem) (g : ℕ → ℕ) (routes : Routes) → names_places p routes ≡ true → visits_at_most_once p routes ≡ true →

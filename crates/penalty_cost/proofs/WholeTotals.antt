@@ -1,5 +1,5 @@
 -- The totals of a whole list.
-use Rattle.std.proofs.Common.{◌≡◌, ℕ, ◌*◌, ◌≤◌, List, length, ◌∙◌, ap, subst, sym, arith, of_z, to_z, w64}
+use Rattle.std.proofs.Common.{◌≡◌, ℕ, ◌≤◌, List, length, ◌∙◌, ap, subst, sym, arith, of_z, to_z, w64}
 use Rattle.std.specs.Prelude.{ℤ, pos, nat_abs}
 use Rattle.std.proofs.lemmas.Int.{ints}
 use Rattle.problem_data.specs.declared.problem.Problem.{Problem}
@@ -8,14 +8,13 @@ use Rattle.problem_data.specs.declared.visit.Visit.{Visit}
 use Rattle.problem_data.specs.Valid.{IsValid, IsValidType}
 use Rattle.routing_model.specs.Listed.{IsListed}
 use Rattle.routing_model.specs.Stops.{stops}
-use Rattle.segments.specs.Totals.{IsTotal, largest_total}
+use Rattle.segments.specs.Totals.{IsTotal}
 use Rattle.trips.specs.declared.whole_route.WholeRoute.{WholeRoute}
-use Rattle.trips.specs.Laws.{most_added}
 use Rattle.trips.specs.WholeRoutes.{IsWhole}
 use Rattle.trips.proofs.RunCounts.{named-listed}
 use Rattle.trips.proofs.WholeDrives.{bounded-by_stops, tells-drive}
 use Rattle.penalty_cost.specs.declared.totals.Totals.{Totals}
-use Rattle.penalty_cost.specs.inside.Totals.{AreShared, AreShort, AreTotals}
+use Rattle.penalty_cost.specs.inside.Totals.{AreShared, AreTotals}
 
 -- a number from 0 on as the code hands it on
 kept : (z : ℤ) (n : ℕ) → z ≡ pos n → IsTotal z → nat_abs (to_z w64 (of_z w64 z)) ≡ n
@@ -23,10 +22,6 @@ kept z n e h = ap nat_abs (same z n e h)
   where
     same : (z : ℤ) (n : ℕ) → z ≡ pos n → IsTotal z → to_z w64 (of_z w64 z) ≡ pos n
     same z n e h = omega (arith, ints, h.to_largest)
-
--- it is no more than the largest total
-short : (z : ℤ) (m n : ℕ) → z ≡ pos n → IsTotal z → m ≡ n → m ≤ largest_total
-short z m n e h same = omega (arith, ints, h.to_largest)
 
 -- a number that is another is no more than that one
 as_most : (m n most : ℕ) → m ≡ n → n ≤ most → m ≤ most
@@ -46,22 +41,14 @@ module _ (p : Problem) (t : VehicleType) (visits : List Visit) (valid : IsValid 
         excess_load = excess ∙ kept whole.segment.excess _ is.stands.excess is.sound.excess;
       }
 
-  pub are-short : AreShort totals
-  are-short =
-      let tells = tells-drive p t whole.segment visits valid allowed is.sound is.stands in
-      record {
-        distance = short whole.distance _ _ is.is_distance is.sound_distance are-totals.distance;
-        duration = short whole.segment.duration.duration _ _ tells.duration is.sound.duration.duration are-totals.duration;
-        warp = short whole.segment.duration.warp _ _ tells.warp is.sound.duration.warp are-totals.warp;
-        excess_load = short whole.segment.excess _ _ is.stands.excess is.sound.excess are-totals.excess_load;
-      }
-
-  pub are-shared : IsListed p visits → AreShared (length (stops p t visits)) totals
-  are-shared listed =
-      let most = bounded-by_stops p t visits (record { valid = valid; allowed = allowed; named = named-listed p visits listed }) in
-      record {
-        distance = as_most _ _ _ are-totals.distance most.distance;
-        duration = as_most _ _ _ are-totals.duration most.duration;
-        warp = as_most _ _ _ are-totals.warp most.warp;
-        excess_load = as_most _ _ _ are-totals.excess_load most.excess_load;
-      }
+-- shared among the list's stops
+pub are-shared : (p : Problem) (t : VehicleType) (visits : List Visit) → IsValid p → IsValidType p t → IsListed p visits → (totals : Totals) → AreTotals p t visits totals →
+    AreShared (length (stops p t visits)) totals
+are-shared p t visits valid allowed listed totals are =
+    let most = bounded-by_stops p t visits (record { valid = valid; allowed = allowed; named = named-listed p visits listed }) in
+    record {
+      distance = as_most _ _ _ are.distance most.distance;
+      duration = as_most _ _ _ are.duration most.duration;
+      warp = as_most _ _ _ are.warp most.warp;
+      excess_load = as_most _ _ _ are.excess_load most.excess_load;
+    }

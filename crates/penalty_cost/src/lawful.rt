@@ -175,8 +175,8 @@ fn serves_required(given: &ProblemData, counts: &[u8]) -> bool
     true
 }
 
-/// Whether all members of a group have prize 0.
-fn is_required_group(given: &ProblemData, members: &[u32]) -> bool
+/// Whether a group, given by its members, is required: whether all of them have the prize 0. Condition: they are clients' places.
+pub fn is_required_group(given: &ProblemData, members: &[u32]) -> bool
     requires { All (λ place. IsTrue (is_client_place given.now place)) members.now }
     ensures { result ≡ is_required_group given.now members.now }
 {

@@ -1,13 +1,19 @@
 //! What a vehicle's list takes and exceeds.
-ghost use Rattle.std.specs.Prelude.{◌≡◌, ◌+◌, ◌≤◌, length};
+ghost use Rattle.std.specs.Prelude.{◌≡◌, ◌+◌, ◌≤◌, List, length};
+ghost use Rattle.problem_data.specs.declared.problem.Problem.{Problem as ProblemOf};
+ghost use Rattle.problem_data.specs.declared.problem.VehicleType.{VehicleType as TypeOf};
+ghost use Rattle.problem_data.specs.declared.visit.Visit.{Visit as VisitOf};
 ghost use Rattle.problem_data.specs.Reads.{RoseAtMost};
-ghost use Rattle.problem_data.specs.Valid.{IsValidType};
+ghost use Rattle.problem_data.specs.Valid.{IsValid, IsValidType};
 ghost use Rattle.routing_model.specs.Listed.{IsListed};
 ghost use Rattle.routing_model.specs.Stops.{stops};
+ghost use Rattle.segments.specs.Totals.{IsTotal};
+ghost use Rattle.trips.specs.Conditions.{IsSoundRoute};
+ghost use Rattle.trips.specs.WholeRoutes.{IsWhole};
 ghost use Rattle.penalty_cost.specs.inside.Totals.{AreShared, AreShort, AreTotals};
 
 use problem_data::{ProblemData, Reads, Steps, VehicleType, Visit};
-use trips::whole_of;
+use trips::{WholeRoute, whole_of};
 
 /// What a vehicle's list takes and exceeds.
 #[derive(Clone, Copy)]
@@ -37,7 +43,16 @@ pub(crate) fn totals_of(
     ensures reads { RoseAtMost (length visits.now + 1) reads.old reads.new }
 {
     given.validity();
-    let whole = whole_of(given, vehicle_type, visits, reads);
+    totals_in(whole_of(given, vehicle_type, visits, reads))
+}
+
+/// The totals of what a whole list adds up to.
+pub(crate) fn totals_in(whole: WholeRoute) -> Totals
+    requires route { IsSoundRoute whole.segment }
+    requires distance { IsTotal whole.distance }
+    ensures totals { (p : ProblemOf) (t : TypeOf) (visits : List VisitOf) → IsValid p → IsValidType p t → IsWhole p t visits whole → AreTotals p t visits result }
+    ensures short { AreShort result }
+{
     let drive = whole.segment.duration;
     Totals {
         distance: whole.distance as u64,

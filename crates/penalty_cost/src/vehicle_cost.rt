@@ -1,17 +1,22 @@
 //! What one vehicle costs.
-ghost use Rattle.std.specs.Prelude.{◌≡◌, ◌+◌, ◌-◌, ◌*◌, ◌<◌, ◌≤◌, length};
+ghost use Rattle.std.specs.Prelude.{◌≡◌, ◌+◌, ◌-◌, ◌*◌, ◌<◌, ◌≤◌, List, length};
+ghost use Rattle.problem_data.specs.declared.visit.Visit.{Visit as VisitOf};
 ghost use Rattle.problem_data.specs.Places.{vehicle_count};
 ghost use Rattle.problem_data.specs.Reads.{RoseAtMost};
 ghost use Rattle.problem_data.specs.Valid.{IsValidType};
 ghost use Rattle.routing_model.specs.Cost.{excess_time, route_cost};
 ghost use Rattle.routing_model.specs.Listed.{IsListed, type_of_vehicle};
-ghost use Rattle.segments.specs.Totals.{largest_total};
+ghost use Rattle.segments.specs.Totals.{IsTotal, largest_total};
+ghost use Rattle.trips.specs.Conditions.{IsSoundRoute};
+ghost use Rattle.trips.specs.WholeRoutes.{IsWhole};
 ghost use Rattle.penalty_cost.specs.Plans.{IsWeighed, largest_weight};
+ghost use Rattle.joined_views.specs.Views.{is_some_list};
 ghost use Rattle.penalty_cost.specs.inside.Totals.{AreShort, cost_of, drive_of, most_cost};
 
-use crate::totals::{Totals, totals_of};
+use crate::totals::{Totals, totals_in, totals_of};
 use problem_data::{ProblemData, Reads, Steps, VehicleType, Visit};
 use routing_model::Weights;
+use trips::WholeRoute;
 
 /// The time warp of these totals, and their net duration above the type's maximum.
 pub(crate) fn excess_time(vehicle_type: &VehicleType, totals: Totals) -> u64
@@ -43,7 +48,7 @@ fn priced(price: u64, amount: u64) -> u128
 }
 
 /// What a used vehicle with these totals costs.
-fn used_cost(
+pub(crate) fn used_cost(
     given: &ProblemData,
     vehicle_type: &VehicleType,
     totals: Totals,
@@ -62,6 +67,29 @@ fn used_cost(
         + priced(weights.load, totals.excess_load)
         + priced(weights.warp, excess_time(vehicle_type, totals))
         + priced(weights.distance, excess_distance(vehicle_type, totals))
+}
+
+/// What a vehicle costs by what its list adds up to; nothing where it is unused.
+pub(crate) fn whole_cost(
+    given: &ProblemData,
+    vehicle_type: &VehicleType,
+    used: bool,
+    whole: WholeRoute,
+    weights: Weights,
+) -> u128
+    requires vehicle_type { IsValidType given.now vehicle_type.now }
+    requires route { IsSoundRoute whole.segment }
+    requires distance { IsTotal whole.distance }
+    requires weights { IsWeighed weights }
+    ensures value { (visits : List VisitOf) → IsWhole given.now vehicle_type.now visits whole → IsListed given.now visits → used ≡ is_some_list visits →
+        result ≡ route_cost given.now weights vehicle_type.now visits }
+    ensures short { result ≤ most_cost }
+{
+    if !used {
+        return 0;
+    }
+    given.validity();
+    used_cost(given, vehicle_type, totals_in(whole), weights)
 }
 
 /// What a vehicle costs with this list. See `route_cost`.

@@ -1,12 +1,14 @@
 //! What is printed of a problem that is searched.
-ghost use Rattle.std.specs.Prelude.{◌≡◌, IfOk, IfSome, length};
+ghost use Rattle.std.specs.Prelude.{◌≡◌, IfOk, IfSome, length, map};
 ghost use Rattle.problem_data.specs.Places.{vehicle_count};
 ghost use Rattle.problem_data.specs.Valid.{IsValid};
+ghost use Rattle.search_model.specs.Kinds.{exchange_kinds};
 ghost use Rattle.command_model.specs.EarlySearch.{early_search};
 ghost use Rattle.pyvrp.specs.inside.Report.{Tells, answer_with, plan_found, text_with};
 
 use crate::outcome::Answer;
 use early_search::{Found, early_search};
+use move_core::{Kit, Operator};
 use problem_data::{NoMemory, Problem, ProblemData, Text};
 use solution_write::write_solution;
 use std::alloc::Global;
@@ -36,18 +38,20 @@ fn answer_with(alloc: Global, problem: &Problem, found: &Found) -> Result<Answer
     })
 }
 
-/// Searches a problem. Condition: the problem is valid.
+/// Searches a problem. Conditions: the problem is valid, and the kit's kinds are the nine exchanges in order.
 pub fn answer_of<R: Threads + Sync>(
     rt: &R,
     alloc: Global,
     problem: Problem,
     seed: u32,
     iterations: u32,
+    kit: &mut Kit,
 ) -> Result<Answer, NoMemory>
-    requires { IsValid problem }
+    requires valid { IsValid problem }
+    requires kinds { map kind_of kit.old.items ≡ exchange_kinds }
     ensures { IfOk result (Tells problem (early_search seed iterations problem)) }
 {
     let given = ProblemData::new(alloc, problem)?;
-    let found = early_search(rt, alloc, &given, seed, iterations)?;
+    let found = early_search(rt, alloc, &given, seed, iterations, kit)?;
     answer_with(alloc, given.problem(), &found)
 }

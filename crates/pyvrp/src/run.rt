@@ -1,8 +1,9 @@
 //! The run of the command: from its words to its texts and its status.
-ghost use Rattle.std.specs.Prelude.{◌≡◌, ◌≢◌, IfOk, map, string_bytes, true, false};
+ghost use Rattle.std.specs.Prelude.{◌≡◌, ◌≢◌, ◌≤◌, All, IfOk, length, map, string_bytes, true, false};
 ghost use Rattle.outside_model.specs.Delivery.{Delivers, Effects};
 ghost use Rattle.outside_model.specs.Sinks.{HasFault, HoldsWhole, IsGiven, IsUntouched, sink_of};
 ghost use Rattle.batch_run.specs.Loads.{files_of};
+ghost use Rattle.search_model.specs.Kinds.{exchange_kinds};
 ghost use Rattle.command_model.specs.Words.{asked};
 ghost use Rattle.pyvrp.specs.inside.Asked.{shown};
 ghost use Rattle.pyvrp.specs.inside.Report.{IsRefusalOf};
@@ -14,6 +15,7 @@ use crate::outcome::Outcome;
 use crate::report::{error_text, output_text, status_of};
 use crate::words::{Asked, base_name, read_words};
 use batch_run::{Files, LoadFault, Sink};
+use move_core::{Kit, Operator};
 use problem_data::NoMemory;
 use std::alloc::Global;
 use std::thread::Threads;
@@ -60,12 +62,14 @@ fn outcome_of_bytes<R: Threads + Sync>(
     bytes: &[u8],
     seed: u32,
     iterations: u32,
+    kit: &mut Kit,
 ) -> Result<Outcome, NoMemory>
+    requires { map kind_of kit.old.items ≡ exchange_kinds }
     ensures { IfOk result (ComesOfBytes seed iterations bytes.now) }
 {
     match read_instance(alloc, bytes, Rounding::Round) {
         Ok(problem) => {
-            let answer = answer_of(rt, alloc, problem, seed, iterations)?;
+            let answer = answer_of(rt, alloc, problem, seed, iterations, kit)?;
             Ok(Outcome::Solved(answer))
         }
         Err(fault) => refused(fault),
@@ -79,14 +83,16 @@ fn outcome_of_path<R: Threads + Sync, F: Files>(
     path: &str,
     seed: u32,
     iterations: u32,
+    kit: &mut Kit,
     files: &mut F,
 ) -> Result<Outcome, NoMemory>
+    requires { map kind_of kit.old.items ≡ exchange_kinds }
     ensures found { IfOk result (ComesOfPath seed iterations path.now
         (files_of (F.holding files.old) (F.holding files.new) (F.faults files.old) (F.faults files.new))) }
     ensures kept { F.holding files.new ≡ F.holding files.old }
 {
     match files.load(path, LARGEST_FILE) {
-        Ok(bytes) => outcome_of_bytes(rt, alloc, bytes.as_slice(), seed, iterations),
+        Ok(bytes) => outcome_of_bytes(rt, alloc, bytes.as_slice(), seed, iterations, kit),
         Err(LoadFault::Failed) => Ok(Outcome::Unreadable),
         Err(LoadFault::TooLong) => Ok(Outcome::Oversized),
         Err(LoadFault::NoMemory) => Err(NoMemory),
@@ -110,13 +116,23 @@ fn texts_of_path<R: Threads + Sync, F: Files>(
     rt: &R,
     alloc: Global,
     asked: &Asked<'_>,
+    kit: &mut Kit,
     files: &mut F,
 ) -> Result<Texts, NoMemory>
+    requires { map kind_of kit.old.items ≡ exchange_kinds }
     ensures found { IfOk result (HasTextsOf (shown asked.now)
         (files_of (F.holding files.old) (F.holding files.new) (F.faults files.old) (F.faults files.new))) }
     ensures kept { F.holding files.new ≡ F.holding files.old }
 {
-    let outcome = outcome_of_path(rt, alloc, asked.path, asked.seed, asked.iterations, files)?;
+    let outcome = outcome_of_path(
+        rt,
+        alloc,
+        asked.path,
+        asked.seed,
+        asked.iterations,
+        kit,
+        files,
+    )?;
     texts_of(alloc, asked.path, &outcome)
 }
 
@@ -152,6 +168,9 @@ fn deliver<O: Sink, E: Sink>(texts: &Texts, out: &mut O, err: &mut E) -> u8
 /// The words are `--seed S --max_iterations N NAME`, N being 0 or 1. The instance is loaded from the files, read and searched; its
 /// plan and the table are put to `out`, and before that the line of its fault, if it has one, to `err`.
 ///
+/// Conditions: there are at least as many kits as words, and each kit's kinds are the nine exchanges in order. The first kit does the
+/// search; all are dropped at the end.
+///
 /// The status is 2 where the words are wrong, 3 for want of memory (nothing was put then), 4 where an output failed, 1 where the
 /// instance wasn't read, and else 0.
 pub fn run_command<R: Threads + Sync, F: Files, O: Sink, E: Sink>(
@@ -161,7 +180,10 @@ pub fn run_command<R: Threads + Sync, F: Files, O: Sink, E: Sink>(
     files: &mut F,
     out: &mut O,
     err: &mut E,
+    mut kits: Vec<Kit>,
 ) -> u8
+    requires enough { length words.items ≤ length kits.items }
+    requires kinds { All (λ kit. map kind_of kit.items ≡ exchange_kinds) kits.items }
     ensures runs { result ≢ 3 → Runs (asked (map string_bytes words.items))
         (files_of (F.holding files.old) (F.holding files.new) (F.faults files.old) (F.faults files.new))
         (sink_of (O.written out.old) (O.written out.new) (O.faults out.old) (O.faults out.new))
@@ -175,7 +197,7 @@ pub fn run_command<R: Threads + Sync, F: Files, O: Sink, E: Sink>(
         let _taken = put_all(err, WRONG_WORDS.as_bytes());
         return WRONG;
     };
-    match texts_of_path(rt, alloc, &asked, files) {
+    match texts_of_path(rt, alloc, &asked, &mut kits[0], files) {
         Ok(texts) => deliver(&texts, out, err),
         Err(NoMemory) => NO_MEMORY,
     }

@@ -1,5 +1,5 @@
 //! The words of the command.
-ghost use Rattle.std.specs.Prelude.{◌≡◌, ◌==◌, ◌<◌, length, map, option_map, string_bytes};
+ghost use Rattle.std.specs.Prelude.{◌≡◌, ◌==◌, ◌<◌, IfSome, length, map, option_map, string_bytes};
 ghost use Rattle.std.specs.List.{after_last};
 ghost use Rattle.pyvrp.specs.inside.Asked.{shown};
 ghost use Rattle.command_model.specs.Words.{are_option_names, asked, asked_by, base_name, is_option_like, number_up_to, without_ending, word_at};
@@ -70,7 +70,8 @@ fn word_at(words: &[String], k: usize) -> &str
 
 /// What the words ask for, where they are the five words `--seed S --max_iterations N NAME`.
 pub fn read_words(words: &[String]) -> Option<Asked<'_>>
-    ensures { option_map shown result ≡ asked (map string_bytes words.entry.now) }
+    ensures asked { option_map shown result ≡ asked (map string_bytes words.entry.now) }
+    ensures five { IfSome result (λ _. length words.entry.now ≡ 5) }
 {
     if words.len() != 5 {
         return None;

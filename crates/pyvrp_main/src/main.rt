@@ -3,7 +3,8 @@
 
 use batch_run::{Folder, StandardError, StandardOutput};
 use problem_data::NoMemory;
-use pyvrp::{NO_MEMORY, run_command};
+use pyvrp::NO_MEMORY;
+use pyvrp_program::run_program;
 use std::env;
 use std::io::ErrorKind;
 use std::process::ExitCode;
@@ -34,5 +35,5 @@ fn main(rt: HostRuntime) -> ExitCode {
     let mut files = Folder::new(rt.alloc(), &rt);
     let mut out = StandardOutput::new(rt.stdout());
     let mut err = StandardError::new(rt.stderr());
-    ExitCode::from(run_command(&rt, rt.alloc(), words, &mut files, &mut out, &mut err))
+    ExitCode::from(run_program(&rt, rt.alloc(), words, &mut files, &mut out, &mut err))
 }

@@ -4,7 +4,7 @@ ghost use Rattle.std.specs.Prelude.{None};
 use crate::runs::{REFUSED_OUTPUT, THREE, THREE_OUTPUT, check_run, files_with, words_for};
 use batch_run::{Failed, MemoryFiles, MemorySink, Nowhere, PlainFiles, Sink};
 use problem_data::NoMemory;
-use pyvrp::run_command;
+use pyvrp_program::run_program;
 use std::cell::Cell;
 use std::test::Fail;
 
@@ -60,7 +60,7 @@ fn puts_errors_before_the_output(rt: HostRuntime) -> Result<(), Fail> {
     let mut err = Timed::new(&clock);
     let mut files = MemoryFiles::new(rt.alloc(), Vec::new(rt.alloc()));
     let asked = words_for(rt.alloc(), "0", "three.vrp")?;
-    let status = run_command(&rt, rt.alloc(), asked, &mut files, &mut out, &mut err);
+    let status = run_program(&rt, rt.alloc(), asked, &mut files, &mut out, &mut err);
     assert_eq!(rt; status, 1);
     let first_output = out.first.ok_or("no output")?;
     let last_error = err.last.ok_or("no error line")?;
@@ -73,7 +73,7 @@ fn refuses_wrong_words(rt: HostRuntime) -> Result<(), NoMemory> {
     let mut files = PlainFiles::new(rt.alloc());
     let mut err = MemorySink::new(rt.alloc(), 500)?;
     let words = Vec::new(rt.alloc());
-    let status = run_command(&rt, rt.alloc(), words, &mut files, &mut Nowhere, &mut err);
+    let status = run_program(&rt, rt.alloc(), words, &mut files, &mut Nowhere, &mut err);
     assert_eq!(rt; status, 2);
     assert_eq!(rt; err.written(), b"pyvrp: wrong words\n".as_slice());
     Ok(())
@@ -85,7 +85,7 @@ fn answers_2_for_wrong_words_where_the_error_output_fails(rt: HostRuntime) -> Re
     let mut out = MemorySink::new(rt.alloc(), 500)?;
     let mut err = MemorySink::new(rt.alloc(), 9)?;
     let words = Vec::new(rt.alloc());
-    let status = run_command(&rt, rt.alloc(), words, &mut files, &mut out, &mut err);
+    let status = run_program(&rt, rt.alloc(), words, &mut files, &mut out, &mut err);
     assert_eq!(rt; status, 2);
     assert_eq!(rt; out.written(), b"".as_slice());
     assert_eq!(rt; err.written(), b"pyvrp: wr".as_slice());

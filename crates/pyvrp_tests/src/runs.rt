@@ -1,7 +1,7 @@
 //! Runs of the command over files and sinks in memory.
 use batch_run::{MemoryFiles, MemorySink};
 use problem_data::NoMemory;
-use pyvrp::run_command;
+use pyvrp_program::run_program;
 use std::alloc::Global;
 use std::process::Abort;
 use std::thread::Threads;
@@ -45,14 +45,8 @@ pub fn check_run<R: Threads + Sync + Abort>(
 ) -> Result<(), NoMemory> {
     let mut out = MemorySink::new(alloc, rooms.0)?;
     let mut err = MemorySink::new(alloc, rooms.1)?;
-    let status = run_command(
-        rt,
-        alloc,
-        words_for(alloc, iterations, "three.vrp")?,
-        files,
-        &mut out,
-        &mut err,
-    );
+    let words = words_for(alloc, iterations, "three.vrp")?;
+    let status = run_program(rt, alloc, words, files, &mut out, &mut err);
     assert_eq!(rt; status, expected.0);
     assert_eq!(rt; out.written(), expected.1.as_bytes());
     assert_eq!(rt; err.written(), expected.2.as_bytes());

@@ -23,7 +23,7 @@ unfolding one_for
 reloads-cons (Client place) visits = sum_by-cons one_for (Client place) visits
 reloads-cons (Reload depot) visits = sum_by-cons one_for (Reload depot) visits
 
-reloads-append : (xs ys : List Visit) → reloads_in (xs ++ ys) ≡ reloads_in xs + reloads_in ys
+pub reloads-append : (xs ys : List Visit) → reloads_in (xs ++ ys) ≡ reloads_in xs + reloads_in ys
 unfolding one_for
 reloads-append xs ys = sum_by-append one_for xs ys
 

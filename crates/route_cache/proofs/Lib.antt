@@ -11,3 +11,6 @@ pub mod Lookups
 pub mod Lone
 pub mod Types
 pub mod LawfulLists
+pub mod MarkPaths
+pub mod Gaps
+pub mod MarkPieces

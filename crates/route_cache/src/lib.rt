@@ -13,6 +13,7 @@ mod mark;
 mod piece_table;
 mod route;
 mod view;
+mod view_validity;
 
 pub use laws::lists_of_lawful_plans_are_listed;
 pub use mark::Mark;

@@ -18,3 +18,5 @@ pub mod MissedPrizes
 pub mod ServedChanges
 pub mod TidyJoints
 pub mod VisitCounts
+pub mod LeastCosts
+pub mod Paths

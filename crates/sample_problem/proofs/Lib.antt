@@ -1,3 +1,5 @@
 pub mod NoGroups
 pub mod ThreeClientsAreValid
+pub mod ThreeTypesAreValid
 pub mod TwoTripsAreValid
+pub mod TwoVehiclesAreValid

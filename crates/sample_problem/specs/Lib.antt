@@ -1,2 +1,4 @@
 pub mod ThreeClients
+pub mod ThreeTypes
 pub mod TwoTrips
+pub mod TwoVehicles

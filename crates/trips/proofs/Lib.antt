@@ -20,3 +20,4 @@ pub mod WholeDrives
 pub mod TidyJoints
 pub mod Bounds
 pub mod RunEnds
+pub mod JoinedLists

@@ -1,24 +1,33 @@
-use Rattle.std.proofs.Common.{◌≡◌, ◌∙◌, ◌++◌, ap, ap₂, arith, length, take, ℕ, List}
-use Rattle.std.proofs.Math.Seq.{take-append_seam}
+use Rattle.std.proofs.Common.{◌≡◌, ◌∙◌, ap, subst, sym, IsTrue, List, ℕ}
+use Rattle.std.proofs.lemmas.Result.{IfOk-weaker}
+use Rattle.problem_data.specs.declared.problem.Problem.{Problem}
+use Rattle.routing_model.specs.Lawful.{is_lawful}
 use Rattle.routing_model.specs.Routes.{Routes}
-use Rattle.command_model.specs.EarlySearch.{early_candidates, first_weights}
-use Rattle.search_model.specs.declared.candidate.Candidate.{Candidate}
-use Rattle.search_model.specs.Search.{descended}
-use Rattle.early_search.proofs.EarlyMoves.{candidates-move}
+use Rattle.random_model.specs.Draws.{client_order}
+use Rattle.command_model.specs.EarlySearch.{neighbour_count, wait_weight, warp_weight}
+use Rattle.move_core.specs.Searches.{SearchState}
+use Rattle.local_search.specs.Descents.{NamesClients, NamesPlaces}
+use Rattle.local_search.proofs.NearPlaces.{neighbours-name_places}
+use Rattle.early_search.proofs.OrderedPlaces.{order-there}
 use Rattle.early_search.proofs.descent.random_descent.Goals as goal
 
-take-whole : (n : ℕ) (xs ys : Routes) → n ≡ length xs → take n (xs ++ ys) ≡ xs
-take-whole n xs ys e = ap (λ (m : ℕ). take m (xs ++ ys)) e ∙ take-append_seam xs ys
+pub descend-requires-clause-order : goal.descend-requires-clause-order
+descend-requires-clause-order g c =
+    let p : Problem = c.args.given.now in
+    let drawn : c.as_slice.result.now ≡ (client_order p c.args.generator.now).value = c.as_slice.ensures.value ∙ c.in_ok-order.ensures.order in
+    let problem : c.in_ok-search.search.problem ≡ p = ap (λ (s : SearchState). s.problem) c.in_ok-search.ensures in
+    subst (λ (q : Problem). NamesClients q c.as_slice.result.now) (sym problem) (subst (NamesClients p) (sym drawn) (order-there p c.args.generator.now))
 
-pub descend-requires-clause-candidates : goal.descend-requires-clause-candidates
-descend-requires-clause-candidates c =
-    candidates-move c.args.given.now c.args.generator.now c.as_slice-2.result.now
-    (c.as_slice-2.ensures.value ∙ c.in_ok-candidates.ensures ∙ ap (early_candidates c.args.given.now) (c.as_slice.ensures.value ∙ c.in_ok-order.ensures.order))
+pub descend-requires-clause-neighbours : goal.descend-requires-clause-neighbours
+descend-requires-clause-neighbours g c =
+    let p : Problem = c.args.given.now in
+    let problem : c.in_ok-search.search.problem ≡ p = ap (λ (s : SearchState). s.problem) c.in_ok-search.ensures in
+    subst (λ (q : Problem). NamesPlaces q c.in_ok-near.near) (sym problem)
+    (subst (NamesPlaces p) (sym c.in_ok-near.ensures) (neighbours-name_places p neighbour_count wait_weight warp_weight))
 
-pub returns-clause-solution : goal.returns-clause-solution
-returns-clause-solution c =
-    let count : c.in_ok-lists.lists.len ≡ length c.descend.new.plan = omega (arith, c.descend.auto.plan, c.as_mut_slice.ensures.len) in
-    c.from_vec.ensures ∙ take-whole c.in_ok-lists.lists.len c.descend.new.plan _ count ∙ c.in_ok-descend.ensures.plan
-    ∙ ap₂ (λ (candidates : List Candidate) (plan : Routes). descended c.args.given.now first_weights candidates plan)
-    (c.as_slice-2.ensures.value ∙ c.in_ok-candidates.ensures ∙ ap (early_candidates c.args.given.now) (c.as_slice.ensures.value ∙ c.in_ok-order.ensures.order))
-    (c.as_mut_slice.ensures.value ∙ c.in_ok-lists.ensures)
+pub returns-clause-lawful : goal.returns-clause-lawful
+returns-clause-lawful g c =
+    let p : Problem = c.args.given.now in
+    let problem : c.descend.new.search.problem ≡ p = c.in_ok-descend.ensures.problem ∙ ap (λ (s : SearchState). s.problem) c.in_ok-search.ensures in
+    let lawful : IsTrue (is_lawful p c.descend.new.search.routes) = subst (λ (q : Problem). IsTrue (is_lawful q c.descend.new.search.routes)) problem c.soundness.ensures.lawful in
+    IfOk-weaker c.solution.result _ _ (λ r e. subst (λ (routes : Routes). IsTrue (is_lawful p routes)) (sym e) lawful) c.solution.ensures

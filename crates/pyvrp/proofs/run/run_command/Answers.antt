@@ -7,12 +7,12 @@ use Rattle.pyvrp.proofs.run.run_command.Goals as goal
 
 pub returns-in_default-clause-runs : goal.returns-in_default-clause-runs
 returns-in_default-clause-runs g c = λ not_three. runs-refused (asked (map string_bytes c.args.words.items)) _ _ _ c.as_bytes.result.now
-    (c.in_default.ensures ∙ ap (λ words. asked (map string_bytes words)) c.as_slice.ensures.value)
+    (c.in_default.ensures.asked ∙ ap (λ words. asked (map string_bytes words)) c.as_slice.ensures.value)
     refl refl (record { written = refl; faults = refl }) c.as_bytes.ensures.value c.put_all-taken.ensures.given
 
 pub returns-in-Ok-clause-runs : goal.returns-in-Ok-clause-runs
 returns-in-Ok-clause-runs g c = λ not_three. runs-instance (asked (map string_bytes c.args.words.items)) (shown c.in-Some.asked) _ _ _ c.deliver.result c.in-Ok.texts
-    (c.in-Some.ensures ∙ ap (λ words. asked (map string_bytes words)) c.as_slice.ensures.value)
+    (c.in-Some.ensures.asked ∙ ap (λ words. asked (map string_bytes words)) c.as_slice.ensures.value)
     c.in-Ok.ensures.found c.deliver.ensures
 
 pub returns-in-Ok-clause-no_memory : goal.returns-in-Ok-clause-no_memory

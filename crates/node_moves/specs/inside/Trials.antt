@@ -1,0 +1,27 @@
+-- What is tried: an exchange of a client with a target.
+use Rattle.std.specs.Prelude.{ℕ, IsTrue, Option}
+use Rattle.list_words.specs.Lists.{is_in}
+use Rattle.search_model.specs.declared.candidate.Candidate.{Candidate}
+use Rattle.search_model.specs.declared.candidate.Candidate.TheVariants.{Node}
+use Rattle.gain_model.specs.CandidateVehicles.{vehicles_of}
+use Rattle.gain_model.specs.Gains.{GainState}
+use Rattle.gain_model.specs.Operators.{IsEvaluation}
+use Rattle.move_core.specs.Searches.{SearchState}
+use Rattle.node_moves.specs.declared.trial.Trial.{Trial}
+use Rattle.node_moves.specs.Exchanges.{exchange_kind}
+
+-- the candidate
+abbrev pub candidate_of : Trial → Candidate
+candidate_of trial = Node (exchange_kind trial.n trial.m) trial.client trial.target
+
+-- the answer to it
+abbrev pub IsAnswer : SearchState → Trial → Option GainState → Type 0
+IsAnswer s trial found = IsEvaluation s.problem s.weights s.routes (candidate_of trial) found
+
+-- a vehicle is the candidate's
+abbrev pub IsOwn : SearchState → Trial → ℕ → Type 0
+IsOwn s trial vehicle = IsTrue (is_in (vehicles_of s.problem s.routes (candidate_of trial)) vehicle)
+
+-- how many legs an answer may take: eight of the screen, and those of the gain
+abbrev pub answer_reads : ℕ
+answer_reads = 26

@@ -1,0 +1,6 @@
+//! The command as the program runs it: with a kit of the exchanges for each word.
+#![tactic(auto)]
+
+mod program;
+
+pub use program::run_program;
