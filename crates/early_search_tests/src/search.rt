@@ -1,6 +1,6 @@
 //! Three clients and vehicles of two types, of which the first costs 20 to use.
 ghost use Rattle.std.specs.Prelude.{◌≡◌, IfOk};
-ghost use Rattle.node_moves.specs.Exchanges.{exchange_kind};
+ghost use Rattle.exchange_screens.specs.Exchanges.{exchange_kind};
 
 use crate::sample::sample;
 use early_search::{Found, early_search};

@@ -1,15 +1,18 @@
 -- Candidates after others, where the problem and the weights are those of the search; and where a descent stops.
-use Rattle.std.proofs.Common.{◌∙◌, Bool, true, List, ◌++◌, refl, sym, ap, subst}
+use Rattle.std.proofs.Common.{◌≡◌, ◌∙◌, ℕ, Bool, true, false, List, [], ◌∷◌, ◌++◌, None, refl, sym, ap, subst}
 use Rattle.std.specs.Prelude.{OnErr, Ok, Err, Result}
 use Rattle.std.proofs.lemmas.List.{append_assoc}
 use Rattle.problem_data.specs.declared.problem.Problem.{Problem}
 use Rattle.routing_model.specs.declared.weights.Weights.{Weights}
 use Rattle.search_model.specs.declared.candidate.Candidate.{Candidate}
+use Rattle.search_model.specs.declared.candidate.Candidate.TheVariants.{Node}
+use Rattle.search_model.specs.declared.candidate.Target.{Target}
 use Rattle.search_model.specs.declared.kind.Kind.{Kind}
+use Rattle.gain_model.specs.Operators.{bettered}
 use Rattle.move_core.specs.Searches.{SearchState}
 use Rattle.local_search.specs.inside.Stages.{IsStage, Stage, Stopped, Tried, plan_after}
 use Rattle.local_search.proofs.JoinedTries.{plan-append}
-use Rattle.local_search.proofs.Tries.{tried_both}
+use Rattle.local_search.proofs.Tries.{left_out, tried_both}
 
 -- of the search's own problem and weights
 pub stage_own : (p : Problem) (w : Weights) (s : Stage) → IsStage p w s → IsStage s.search.problem s.search.weights s
@@ -81,3 +84,14 @@ stopped_more p w cs ds a c h = record {
 pub on_err : {T E : Type 0} (r : Result T E) {P : Type 0} → P → OnErr r P
 on_err (Ok x) h = tt
 on_err (Err e) h = h
+
+-- one candidate, of a kind by another name; and one that is known to give nothing
+pub tried_kind : (p : Problem) (w : Weights) (kinds : List Kind) (each : Bool) (u : ℕ) (target : Target) (kind other : Kind) (a b : Stage) → kind ≡ other →
+    Tried p w kinds true (Node kind u target ∷ []) a b → Tried p w kinds each (Node other u target ∷ []) a b
+tried_kind p w kinds each u target kind other a b same f =
+    subst (λ (k : Kind). Tried p w kinds each (Node k u target ∷ []) a b) same (tried_some p w kinds each (Node kind u target ∷ []) a b f)
+
+pub left_out_one : (p : Problem) (w : Weights) (kinds : List Kind) (each : Bool) (c : Candidate) (s : Stage) → each ≡ false → IsStage p w s → bettered p w s.search.routes c ≡ None →
+    Tried p w kinds each (c ∷ []) s s
+left_out_one p w kinds each c s later at none =
+    subst (λ (e : Bool). Tried p w kinds e (c ∷ []) s s) (sym later) (left_out p w kinds (c ∷ []) s at (none, tt))

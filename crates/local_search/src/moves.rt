@@ -40,6 +40,8 @@ fn renew_all(memory: &mut Memory, search: &Search<'_>)
 }
 
 /// Takes the move of a gain that the operator at a place gave: applies it, remembers it, and tells the operators.
+#[cold]
+#[inline(never)]
 fn take(
     search: &mut Search<'_>,
     kit: &mut [Box<dyn Operator + Send>],

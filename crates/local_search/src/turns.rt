@@ -9,12 +9,13 @@ ghost use Rattle.local_search.specs.inside.Turns.{near_candidates, neighbour_can
 
 use crate::each_kind::{try_neighbour, try_type};
 use crate::memory::Memory;
+use exchange_screens::look;
 use granular::Neighbours;
 use move_core::{Operator, Search};
 use problem_data::{NoMemory, Reads, Steps};
 
 /// Tries a client and its neighbour at a place of its list; in a later pass only where one of them was touched since the client's
-/// last turn.
+/// last turn, and those kinds that a look doesn't tell to give nothing.
 fn neighbour_step(
     search: &mut Search<'_>,
     kit: &mut [Box<dyn Operator + Send>],
@@ -42,7 +43,8 @@ fn neighbour_step(
     if !each && memory.is_neighbour_untouched(client, neighbour) {
         return Ok(());
     }
-    try_neighbour(search, kit, memory, client, neighbour, reads)?;
+    look(search, client, neighbour, reads);
+    try_neighbour(search, kit, memory, each, client, neighbour, reads)?;
     Ok(())
 }
 

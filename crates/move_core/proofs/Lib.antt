@@ -1,13 +1,3 @@
-pub mod FreeVehicles
-pub mod LeastVehicles
-pub mod LeftVehicles
-pub mod ListRoutes
 pub mod MadeRoutes
-pub mod MovedClients
 pub mod PlacedRoutes
-pub mod Positions
-pub mod PositionsAmong
-pub mod RouteFigures
 pub mod SoundSearches
-pub mod SpotMarks
-pub mod WrittenBack

@@ -12,7 +12,8 @@ use Rattle.gain_model.specs.Gains.{AreApart, GainSide, GainState, IsPartWithin, 
 use Rattle.gain_model.specs.RouteReads.{apply_reads, new_reads, set_reads}
 use Rattle.gain_model.specs.declared.part.Part.{Part}
 use Rattle.route_cache.specs.Routes.{RouteState}
-use Rattle.move_core.specs.inside.Applying.{AreMadeRoutes, second_reads, side_route, vehicle_route}
+use Rattle.move_core.specs.inside.Applying.{AreMadeRoutes, second_reads, side_route}
+use Rattle.plan_tables.specs.Routes.{vehicle_route}
 
 -- the lists that a gain's sides make
 abbrev pub made_with : Routes → GainSide → Option GainSide → Routes

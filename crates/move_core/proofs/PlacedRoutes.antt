@@ -9,8 +9,8 @@ use Rattle.problem_data.specs.declared.visit.Visit.{Visit}
 use Rattle.routing_model.specs.Routes.{Routes}
 use Rattle.gain_model.specs.Gains.{GainSide, GainState, IsSideWithin, IsWithin, made, side_visits}
 use Rattle.route_cache.specs.Routes.{RouteState}
-use Rattle.move_core.specs.inside.Applying.{AreMadeRoutes, placed, side_route}
-use Rattle.move_core.specs.inside.Routes.{AreRoutes, lists_of}
+use Rattle.move_core.specs.inside.Applying.{AreMadeRoutes, side_route}
+use Rattle.plan_tables.specs.Routes.{AreRoutes, lists_of, placed}
 use Rattle.move_core.proofs.MadeRoutes.{made-is, made_with, second-within}
 
 abbrev visits_in : RouteState → List Visit

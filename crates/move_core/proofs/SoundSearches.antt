@@ -14,13 +14,13 @@ use Rattle.gain_model.specs.Gains.{GainState, HasAmount, MayBeApplied, made}
 use Rattle.route_cache.specs.Routes.{RouteState}
 use Rattle.route_cache.proofs.LawfulLists.{lawful-listed}
 use Rattle.penalty_cost.specs.Plans.{IsDrivablePlan, IsWeighed}
-use Rattle.move_core.specs.declared.plan_tables.PlanTables.{PlanTables}
+use Rattle.plan_tables.specs.declared.plan_tables.PlanTables.{PlanTables}
 use Rattle.move_core.specs.Searches.{IsSound}
-use Rattle.move_core.specs.inside.Applying.{AreMadeRoutes, placed}
-use Rattle.move_core.specs.inside.Routes.{AreRoutes, lists_of}
+use Rattle.move_core.specs.inside.Applying.{AreMadeRoutes}
+use Rattle.plan_tables.specs.Routes.{AreRoutes, lists_of, placed}
 use Rattle.move_core.specs.inside.Searches.{IsKeptPlan}
-use Rattle.move_core.specs.inside.Spots.{AreOnce}
-use Rattle.move_core.specs.inside.Tables.{HasPlanTables}
+use Rattle.plan_tables.specs.Spots.{AreOnce}
+use Rattle.plan_tables.specs.Tables.{HasPlanTables}
 use Rattle.move_core.proofs.PlacedRoutes.{made-routes, placed-lists}
 
 pub sound-of : (p : Problem) (w : Weights) (routes : Routes) → IsValid p → IsWeighed w → IsTrue (is_lawful p routes) → IsSound (record { problem = p; weights = w; routes = routes })

@@ -1,3 +1,4 @@
 pub mod inside
+pub mod Looks
 pub mod Operators
 pub mod Searches

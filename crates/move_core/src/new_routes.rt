@@ -5,11 +5,11 @@ ghost use Rattle.problem_data.specs.Reads.{RoseAtMost};
 ghost use Rattle.routing_model.specs.Listed.{IsListed};
 ghost use Rattle.gain_model.specs.Gains.{IsPartWithin, IsWithin, made, part_visits};
 ghost use Rattle.gain_model.specs.RouteReads.{apply_reads, set_reads};
-ghost use Rattle.move_core.specs.inside.Applying.{AreMadeRoutes, second_reads, vehicle_route};
-ghost use Rattle.move_core.specs.inside.Routes.{lists_of};
+ghost use Rattle.move_core.specs.inside.Applying.{AreMadeRoutes, second_reads};
+ghost use Rattle.plan_tables.specs.Routes.{lists_of, vehicle_route};
 
-use crate::route_lists::joined;
 use penalty_cost::{Gain, Part, Side};
+use plan_tables::joined;
 use problem_data::{NoMemory, ProblemData, Reads, Steps};
 use route_cache::Route;
 use std::alloc::Global;

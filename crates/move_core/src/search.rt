@@ -10,16 +10,19 @@ ghost use Rattle.penalty_cost.specs.Plans.{IsDrivablePlan, IsWeighed};
 ghost use Rattle.routing_model.specs.Listed.{type_of_vehicle};
 ghost use Rattle.routing_model.specs.Routes.{list_at};
 ghost use Rattle.search_model.specs.Edits.{position_of, unused_vehicle};
-ghost use Rattle.move_core.specs.Searches.{IsSound, largest_rest, rest_of, some_type_reloads};
+ghost use Rattle.move_core.specs.Looks.{AreHopeless, GivesNothing};
+ghost use Rattle.move_core.specs.Searches.{IsSound};
+ghost use Rattle.plan_tables.specs.Figures.{largest_rest, rest_of};
+ghost use Rattle.plan_tables.specs.Tables.{some_type_reloads};
 
 use crate::applied::change;
-use crate::plan_tables::PlanTables;
-use crate::problem_tables::ProblemTables;
-use crate::route_lists::{lists_in, routes_of};
+use crate::look::Look;
 use penalty_cost::{Gain, solution_cost};
+use plan_tables::{PlanTables, ProblemTables, lists_in, routes_of};
 use problem_data::{NoMemory, ProblemData, Reads, RouteList, Solution, Steps};
 use route_cache::Route;
 use routing_model::Weights;
+use search_model::Kind;
 use std::alloc::Global;
 use std::marker::Model;
 
@@ -44,19 +47,20 @@ pub struct Search<'d> {
     cost: i128,
     kept: PlanTables,
     facts: ProblemTables,
+    look: Look,
 }
 
 impl<'d> Model for Search<'d> {
     ghost use Rattle.std.specs.Prelude.{};
     ghost use Rattle.move_core.specs.Searches.{SearchState};
-    ghost use Rattle.move_core.specs.inside.Routes.{lists_of};
+    ghost use Rattle.plan_tables.specs.Routes.{lists_of};
     ghost use Rattle.move_core.specs.inside.Searches.{IsSearch};
 
     ghost Value = { SearchState };
 
     ghost view = { λ a. record { problem = a.given.now; weights = a.weights; routes = lists_of a.routes.items } };
 
-    ghost invariant = { λ a. IsSearch a.given.now a.weights a.routes.items a.cost a.kept a.facts };
+    ghost invariant = { λ a. IsSearch a.given.now a.weights a.routes.items a.cost a.kept a.facts a.look };
 }
 
 impl<'d> Search<'d> {
@@ -85,6 +89,7 @@ impl<'d> Search<'d> {
             routes,
             kept,
             facts,
+            look: Look::nothing(),
         })
     }
 
@@ -223,6 +228,27 @@ impl<'d> Search<'d> {
         self.facts.reload_types
     }
 
+    /// Keeps what a look at a client and a neighbour found, in the place of what was kept: marks of exchanges, in their order, whose move of
+    /// the client behind the neighbour gives nothing. It is forgotten as the lists change.
+    pub fn note_hopeless(&mut self, client: u32, neighbour: u32, hopeless: [bool; 9])
+        requires { AreHopeless self.old client neighbour hopeless }
+        ensures { self.new ≡ self.old }
+    {
+        self.look = Look {
+            client,
+            neighbour,
+            hopeless,
+        };
+    }
+
+    /// Whether it is known of an exchange that its move of a client behind a neighbour gives nothing. Of a kind that is no exchange it
+    /// never is.
+    pub fn is_hopeless(&self, kind: Kind, client: u32, neighbour: u32) -> bool
+        ensures { IsTrue result → GivesNothing self.now kind client neighbour }
+    {
+        self.look.client == client && self.look.neighbour == neighbour && self.look.has(kind)
+    }
+
     /// Makes the change of a gain. All memory is taken first: where it runs out, the search is as it was.
     ///
     /// Condition: the gain is within the lists, lowers their cost by the weights by its amount, and makes a lawful plan. It reads at
@@ -243,6 +269,7 @@ impl<'d> Search<'d> {
             reads,
         )?;
         self.cost += gain.amount();
+        self.look = Look::nothing();
         Ok(())
     }
 }

@@ -20,10 +20,10 @@ use Rattle.gain_model.proofs.ProposedMoves.{lender_at, listed-at, proposed_one, 
 use Rattle.penalty_cost.specs.Proposals.{CanBeCosted, HasSides, IsImproving, ProposalState, SideState, lender_of, new_lists, proposed_of, seen_side, seen_sides, sides_in}
 use Rattle.route_cache.specs.Routes.{RouteState, ViewState}
 use Rattle.move_core.specs.Searches.{IsSound, SearchState}
-use Rattle.node_moves.specs.declared.change.Change.{Change}
-use Rattle.node_moves.specs.declared.change.Change.TheVariants.{One, Two}
-use Rattle.node_moves.specs.declared.layout.Layout.{Layout}
-use Rattle.node_moves.specs.inside.Changes.{AreSides, IsLaid, IsSide, changed_vehicles, new_list, new_plan}
+use Rattle.exchange_screens.specs.declared.change.Change.{Change}
+use Rattle.exchange_screens.specs.declared.change.Change.TheVariants.{One, Two}
+use Rattle.exchange_screens.specs.declared.layout.Layout.{Layout}
+use Rattle.exchange_screens.specs.Changes.{AreSides, IsLaid, IsSide, changed_vehicles, new_list, new_plan}
 use Rattle.node_moves.specs.inside.Improvements.{IsImprovement}
 use Rattle.node_moves.specs.inside.Views.{added, empty_side, layout_views, proposal_of, route_at, side_of}
 use Rattle.node_moves.proofs.NewViews.{all-views, lenders-listed, lent-laid, reads-most, reads-own}

@@ -1,13 +1,3 @@
-pub mod BoundLaws
-pub mod Changes
-pub mod Exchanged
 pub mod Improving
-pub mod LaidLists
-pub mod LoadLaws
 pub mod NewViews
-pub mod OwnVehicles
-pub mod PieceFacts
-pub mod PutLaws
-pub mod SwapLaws
 pub mod TrialAnswers
-pub mod WayLaws

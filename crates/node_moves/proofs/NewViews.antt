@@ -18,9 +18,9 @@ use Rattle.penalty_cost.specs.Proposals.{lender_of}
 use Rattle.route_cache.specs.Routes.{RouteState, ViewState, lent}
 use Rattle.route_cache.proofs.Slices.{slice-none}
 use Rattle.joined_views.specs.Views.{seen_view}
-use Rattle.node_moves.specs.declared.layout.Layout.{Layout}
-use Rattle.node_moves.specs.declared.layout.Span.{Span}
-use Rattle.node_moves.specs.inside.Layouts.{has_none, laid_out, runs_of, span_of}
+use Rattle.exchange_screens.specs.declared.layout.Layout.{Layout}
+use Rattle.exchange_screens.specs.declared.layout.Span.{Span}
+use Rattle.exchange_screens.specs.Layouts.{has_none, laid_out, runs_of, span_of}
 use Rattle.node_moves.specs.inside.Views.{back_view, back_views, front_view, front_views, layout_views, run_view, run_views}
 
 same : (a b : ℕ) → nat_eq a b ≡ true → a ≡ b

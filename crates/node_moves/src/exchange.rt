@@ -1,14 +1,14 @@
 //! The exchanges: kinds 1 to 9.
-ghost use Rattle.std.specs.Prelude.{◌≡◌};
+ghost use Rattle.std.specs.Prelude.{◌≡◌, IsTrue, None};
 ghost use Rattle.problem_data.specs.Reads.{RoseAtMost};
 ghost use Rattle.gain_model.specs.Operators.{fits_all};
-ghost use Rattle.node_moves.specs.Exchanges.{IsExchange, exchange_kind};
-ghost use Rattle.node_moves.specs.inside.Trials.{IsAnswer, answer_reads};
+ghost use Rattle.exchange_screens.specs.Exchanges.{IsExchange, exchange_kind};
+ghost use Rattle.exchange_screens.specs.Trials.{IsAnswer};
+ghost use Rattle.node_moves.specs.Exchanges.{answer_reads};
 
 use crate::improved::improved;
-use crate::screen::is_dear;
-use crate::trial::{Trial, change_of};
-use move_core::{Candidate, Gain, Kind, Operator, Search, Tally};
+use exchange_screens::{Trial, change_of, is_dear};
+use move_core::{Candidate, Gain, Kind, Operator, Search, Tally, Target};
 use problem_data::{NoMemory, Reads, Steps};
 use std::marker::Model;
 
@@ -23,7 +23,8 @@ pub struct Exchange {
 
 impl Model for Exchange {
     ghost use Rattle.std.specs.Prelude.{};
-    ghost use Rattle.node_moves.specs.Exchanges.{ExchangeState, IsExchange};
+    ghost use Rattle.exchange_screens.specs.Exchanges.{IsExchange};
+    ghost use Rattle.node_moves.specs.Exchanges.{ExchangeState};
 
     ghost Value = { ExchangeState };
 
@@ -73,12 +74,28 @@ fn kind_of(n: u32, m: u32) -> Kind
     }
 }
 
+/// Whether it is known of a trial that it gives nothing.
+fn is_hopeless(search: &Search<'_>, trial: Trial) -> bool
+    requires { IsExchange trial.n trial.m }
+    ensures { IsTrue result → IsAnswer search.now trial None }
+{
+    match trial.target {
+        Target::After(neighbour) => {
+            search.is_hopeless(kind_of(trial.n, trial.m), trial.client, neighbour)
+        }
+        _ => false,
+    }
+}
+
 /// The answer to a trial: nothing is copied or allocated, and a change that surely doesn't lower the cost isn't costed.
 fn answer(search: &Search<'_>, trial: Trial, reads: &mut Steps<Reads>) -> Option<Gain>
     requires { IsExchange trial.n trial.m }
     ensures answer { IsAnswer search.now trial result }
     ensures reads { RoseAtMost answer_reads reads.old reads.new }
 {
+    if is_hopeless(search, trial) {
+        return None;
+    }
     let change = change_of(search, trial)?;
     if is_dear(search, change, reads) {
         return None;

@@ -2,19 +2,20 @@
 ghost use Rattle.std.specs.Prelude.{◌≡◌, IsTrue};
 ghost use Rattle.problem_data.specs.Reads.{RoseAtMost};
 ghost use Rattle.routing_model.specs.Lawful.{is_lawful};
-ghost use Rattle.node_moves.specs.declared.change.Change.TheVariants.{One, Two};
-ghost use Rattle.node_moves.specs.inside.Changes.{AreSides, IsLaid, IsSide, new_plan};
+ghost use Rattle.exchange_screens.specs.declared.change.Change.TheVariants.{One, Two};
+ghost use Rattle.exchange_screens.specs.Changes.{AreSides, IsLaid, IsSide, new_plan};
 ghost use Rattle.node_moves.specs.inside.Improvements.{IsImprovement};
 ghost use Rattle.node_moves.specs.inside.Views.{proposal_of};
 
-use crate::change::Change;
 use crate::laying::lay_out;
-use crate::layout::Layout;
+use exchange_screens::{Change, Layout};
 use move_core::Search;
 use penalty_cost::{Gain, Proposal, Side};
 use problem_data::{Reads, Steps};
 
 /// The gain of a change, where it lowers the cost. Condition: the plan with the new lists is lawful. At most 18 legs are read.
+#[cold]
+#[inline(never)]
 pub(crate) fn improved(
     search: &Search<'_>,
     change: Change,

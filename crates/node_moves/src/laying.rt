@@ -2,10 +2,10 @@
 ghost use Rattle.std.specs.Prelude.{◌≡◌, ◌<◌, Some, length};
 ghost use Rattle.problem_data.specs.Reads.{RoseAtMost};
 ghost use Rattle.penalty_cost.specs.Proposals.{CanPush, pushed, side_at, views_at};
-ghost use Rattle.node_moves.specs.inside.Layouts.{IsLayout, IsSpan};
+ghost use Rattle.exchange_screens.specs.Layouts.{IsLayout, IsSpan};
 ghost use Rattle.node_moves.specs.inside.Views.{IsOpen, added, empty_side, layout_views, run_views};
 
-use crate::layout::{Layout, Span};
+use exchange_screens::{Layout, Span};
 use penalty_cost::{Proposal, Side};
 use problem_data::{Reads, Steps};
 use route_cache::{Route, View};

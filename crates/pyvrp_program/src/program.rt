@@ -4,7 +4,7 @@ ghost use Rattle.outside_model.specs.Sinks.{IsUntouched, sink_of};
 ghost use Rattle.batch_run.specs.Loads.{files_of};
 ghost use Rattle.search_model.specs.Kinds.{exchange_kinds};
 ghost use Rattle.command_model.specs.Words.{asked};
-ghost use Rattle.node_moves.specs.Exchanges.{exchange_kind};
+ghost use Rattle.exchange_screens.specs.Exchanges.{exchange_kind};
 ghost use Rattle.pyvrp.specs.Run.{Runs};
 
 use batch_run::{Files, Sink};

@@ -1,20 +1,12 @@
 -- Applying gains.
-use Rattle.std.specs.Prelude.{◌≡◌, ◌≢◌, ℕ, length, Option, Some, None, IfSome, List, option_map, slice_set}
+use Rattle.std.specs.Prelude.{◌≡◌, ◌≢◌, ℕ, length, Option, Some, None, IfSome, List, option_map}
 use Rattle.problem_data.specs.declared.problem.Problem.{Problem}
 use Rattle.problem_data.specs.declared.visit.Visit.{Visit}
 use Rattle.routing_model.specs.Routes.{Routes}
 use Rattle.gain_model.specs.Gains.{GainSide, GainState, side_visits}
 use Rattle.gain_model.specs.RouteReads.{set_reads}
 use Rattle.route_cache.specs.Routes.{RouteState}
-
--- routes with another one in its vehicle's place, if there is one
-abbrev pub placed : Option RouteState → List RouteState → List RouteState
-placed None states = states
-placed (Some state) states = slice_set states state.vehicle state
-
--- the route of a vehicle with a list
-abbrev pub vehicle_route : Problem → List Visit → ℕ → RouteState
-vehicle_route p visits vehicle = record { problem = p; vehicle = vehicle; visits = visits }
+use Rattle.plan_tables.specs.Routes.{vehicle_route}
 
 -- what a second vehicle's route may read, if there is one
 abbrev pub second_reads : Option ℕ → List Visit → ℕ

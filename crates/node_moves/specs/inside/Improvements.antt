@@ -3,8 +3,8 @@ use Rattle.std.specs.Prelude.{◌≡◌, ◌≤◌, ◌<ℤ◌, pos, map, Option
 use Rattle.routing_model.specs.Cost.{solution_cost}
 use Rattle.gain_model.specs.Gains.{GainSide, GainState, HasAmount, IsWithin, made, sides_of}
 use Rattle.move_core.specs.Searches.{SearchState}
-use Rattle.node_moves.specs.declared.change.Change.{Change}
-use Rattle.node_moves.specs.inside.Changes.{changed_vehicles, new_plan}
+use Rattle.exchange_screens.specs.declared.change.Change.{Change}
+use Rattle.exchange_screens.specs.Changes.{changed_vehicles, new_plan}
 
 -- a gain makes the plan with the new lists, which costs less; its sides are the vehicles of the change
 pub record IsGain (s : SearchState) (change : Change) (gain : GainState) : Type 0 where

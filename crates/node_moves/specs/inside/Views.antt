@@ -6,11 +6,11 @@ use Rattle.gain_model.specs.declared.part.Side.TheVariants.{First, Second}
 use Rattle.penalty_cost.specs.Proposals.{ProposalState, SideState}
 use Rattle.route_cache.specs.Routes.{RouteState, ViewState}
 use Rattle.move_core.specs.Searches.{SearchState}
-use Rattle.node_moves.specs.declared.change.Change.{Change}
-use Rattle.node_moves.specs.declared.change.Change.TheVariants.{One, Two}
-use Rattle.node_moves.specs.declared.layout.Layout.{Layout}
-use Rattle.node_moves.specs.declared.layout.Span.{Span}
-use Rattle.node_moves.specs.inside.Layouts.{has_none}
+use Rattle.exchange_screens.specs.declared.change.Change.{Change}
+use Rattle.exchange_screens.specs.declared.change.Change.TheVariants.{One, Two}
+use Rattle.exchange_screens.specs.declared.layout.Layout.{Layout}
+use Rattle.exchange_screens.specs.declared.layout.Span.{Span}
+use Rattle.exchange_screens.specs.Layouts.{has_none}
 
 -- a route's first visits with the start, a run of its visits, and its last visits with the end
 abbrev pub front_view : RouteState → ℕ → ViewState

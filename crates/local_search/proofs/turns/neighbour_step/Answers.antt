@@ -4,7 +4,6 @@ use Rattle.std.proofs.lemmas.List.Elements.{All-get_or}
 use Rattle.problem_data.specs.Places.{place_count}
 use Rattle.search_model.specs.Neighbours.{near_list}
 use Rattle.local_search.proofs.Keeping.{exchanges_need_none, neighbour_left_out}
-use Rattle.local_search.proofs.Stops.{tried_some}
 use Rattle.local_search.proofs.turns.neighbour_step.Goals as goal
 
 pub returns-then-is_neighbour_untouched-clause-tried : goal.returns-then-is_neighbour_untouched-clause-tried
@@ -17,4 +16,4 @@ returns-then-is_neighbour_untouched-clause-tried g c =
     (rw c.of.ensures at (sym c.is_neighbour_untouched.ensures ∙ c.if-is_neighbour_untouched.true))
 
 pub returns-clause-tried : goal.returns-clause-tried
-returns-clause-tried g c = tried_some _ _ _ _ _ _ _ (rw c.of.ensures at c.in_ok-try_neighbour.ensures.tried)
+returns-clause-tried g c = rw (c.of.ensures, c.look.ensures.same) at c.in_ok-try_neighbour.ensures.tried

@@ -1,6 +1,6 @@
 use Rattle.std.proofs.Common.{◌∙◌, ap}
 use Rattle.move_core.specs.inside.Applying.{AreMadeRoutes}
-use Rattle.move_core.specs.inside.Routes.{lists_of}
+use Rattle.plan_tables.specs.Routes.{lists_of}
 use Rattle.move_core.proofs.PlacedRoutes.{other-inside, placed-lists}
 use Rattle.move_core.proofs.SoundSearches.{gain-listed, kept-after, once-after, once-before}
 use Rattle.move_core.proofs.applied.change.Goals as goal

@@ -1,8 +1,8 @@
 use Rattle.std.proofs.Common.{◌∙◌}
 use Rattle.problem_data.specs.Places.{vehicle_count}
-use Rattle.move_core.specs.inside.Routes.{lists_of}
+use Rattle.plan_tables.specs.Routes.{lists_of}
 use Rattle.move_core.proofs.MadeRoutes.{are-made, first-listed, reads-made, second-inside, second-listed, second-parts-within}
-use Rattle.move_core.proofs.SpotMarks.{lists-count}
+use Rattle.plan_tables.proofs.SpotMarks.{lists-count}
 use Rattle.move_core.proofs.new_routes.made_routes.Goals as goal
 
 pub made_route-requires-clause-listed : goal.made_route-requires-clause-listed

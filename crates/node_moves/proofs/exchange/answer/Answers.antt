@@ -1,4 +1,5 @@
-use Rattle.node_moves.proofs.TrialAnswers.{dear-answer, improved-answer}
+use Rattle.exchange_screens.proofs.DearTrials.{dear-answer}
+use Rattle.node_moves.proofs.TrialAnswers.{improved-answer}
 use Rattle.node_moves.proofs.exchange.answer.Goals as goal
 
 pub returns-then-is_dear-clause-answer : goal.returns-then-is_dear-clause-answer

@@ -2,7 +2,8 @@ use Rattle.std.proofs.Common.{rules, ◌≡◌, ◌∙◌, All, [], ◌∷◌, a
 use Rattle.std.proofs.lemmas.List.Elements.{All-append, All-cons, All-nil}
 use Rattle.search_model.specs.declared.kind.Kind.{Kind}
 use Rattle.search_model.specs.Kinds.{exchange_kinds}
-use Rattle.node_moves.specs.Exchanges.{ExchangeState, exchange_kind}
+use Rattle.exchange_screens.specs.Exchanges.{exchange_kind}
+use Rattle.node_moves.specs.Exchanges.{ExchangeState}
 use Rattle.pyvrp_program.specs.contracts.program.are_kits_for.{dyn-1-ghosts}
 use Rattle.pyvrp_program.proofs.program.run.OwnLists.{own-1, lawful-own-1}
 use Rattle.pyvrp_program.proofs.program.run.Hidden.{sends-own-1}

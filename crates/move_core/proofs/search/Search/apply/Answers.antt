@@ -2,7 +2,7 @@ use Rattle.std.proofs.Common.{◌≡◌, ◌∙◌, arith, ◌+ℤ◌, of_z, to_
 use Rattle.std.proofs.lemmas.Int.{ints}
 use Rattle.std.specs.Int.{w128}
 use Rattle.gain_model.specs.Gains.{HasAmount}
-use Rattle.move_core.specs.inside.Routes.{lists_of}
+use Rattle.plan_tables.specs.Routes.{lists_of}
 use Rattle.move_core.proofs.SoundSearches.{cost-after}
 use Rattle.move_core.proofs.search.Search.apply.Goals as goal
 
@@ -16,4 +16,5 @@ invariant_of-self-2 c =
           exact
           ∙ cost-after c.self.inside.given.now c.self.inside.weights (lists_of c.self.inside.routes.items) (lists_of c.change.new.routes.items) c.self.inside.cost c.args.gain c.self.invariant.costs_total amount c.in_ok-change.ensures.lists;
       has_facts = c.self.invariant.has_facts;
+      is_look = c.nothing-self-inside.ensures (record { problem = c.self.inside.given.now; weights = c.self.inside.weights; routes = lists_of c.change.new.routes.items });
     }

@@ -3,7 +3,7 @@ use Rattle.routing_model.specs.Cost.{route_cost}
 use Rattle.routing_model.specs.Listed.{type_of_vehicle}
 use Rattle.routing_model.specs.Routes.{list_at}
 use Rattle.move_core.specs.Searches.{SearchState}
-use Rattle.move_core.proofs.RouteFigures.{as-many, cost-there}
+use Rattle.plan_tables.proofs.RouteFigures.{as-many, cost-there}
 use Rattle.move_core.proofs.search.Search.cost_of.Goals as goal
 
 pub returns-clause-cost : goal.returns-clause-cost

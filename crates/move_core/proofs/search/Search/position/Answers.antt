@@ -1,7 +1,7 @@
 use Rattle.std.proofs.Common.{◌≤◌, arith, sym}
 use Rattle.problem_data.specs.Places.{place_count}
-use Rattle.move_core.specs.inside.Routes.{lists_of}
-use Rattle.move_core.proofs.Positions.{position-none, spot-within}
+use Rattle.plan_tables.specs.Routes.{lists_of}
+use Rattle.plan_tables.proofs.Positions.{position-none, spot-within}
 use Rattle.move_core.proofs.search.Search.position.Goals as goal
 
 pub returns-then-client-spots-clause-position : goal.returns-then-client-spots-clause-position

@@ -1,9 +1,10 @@
 use Rattle.std.proofs.Common.{◌≡◌, ap, pos, subst, ◌∙◌, get_or, List, ℤ, to_z, of_z, w64}
 use Rattle.routing_model.specs.Listed.{type_of_vehicle}
 use Rattle.routing_model.specs.Routes.{list_at}
-use Rattle.move_core.specs.Searches.{SearchState, rest_of}
-use Rattle.move_core.specs.inside.Routes.{lists_of}
-use Rattle.move_core.proofs.RouteFigures.{as-many, rest-read, rest-small, rest-there}
+use Rattle.move_core.specs.Searches.{SearchState}
+use Rattle.plan_tables.specs.Figures.{rest_of}
+use Rattle.plan_tables.specs.Routes.{lists_of}
+use Rattle.plan_tables.proofs.RouteFigures.{as-many, rest-read, rest-small, rest-there}
 use Rattle.move_core.proofs.search.Search.rest.Goals as goal
 
 pub returns-clause-rest : goal.returns-clause-rest

@@ -1,5 +1,5 @@
 use Rattle.std.proofs.Common.{ap, ◌∙◌, get_or, List, ℕ}
-use Rattle.move_core.proofs.RouteFigures.{sized, size-there}
+use Rattle.plan_tables.proofs.RouteFigures.{sized, size-there}
 use Rattle.move_core.proofs.search.Search.size.Goals as goal
 
 pub returns-clause-size : goal.returns-clause-size

@@ -1,8 +1,8 @@
 use Rattle.std.proofs.Common.{◌≤◌, arith, length, sym, None}
-use Rattle.move_core.specs.inside.Routes.{lists_of}
-use Rattle.move_core.specs.inside.Tables.{AreUnused}
-use Rattle.move_core.proofs.FreeVehicles.{found-within, unused-none}
-use Rattle.move_core.proofs.LeastVehicles.{kept-unused}
+use Rattle.plan_tables.specs.Routes.{lists_of}
+use Rattle.plan_tables.specs.Unused.{AreUnused}
+use Rattle.plan_tables.proofs.FreeVehicles.{found-within, unused-none}
+use Rattle.plan_tables.proofs.LeastVehicles.{kept-unused}
 use Rattle.move_core.proofs.search.Search.unused.Goals as goal
 
 pub returns-then-vehicle_type-unused-clause-unused : goal.returns-then-vehicle_type-unused-clause-unused

@@ -1,8 +1,0 @@
-use Rattle.std.proofs.Common.{◌≡◌, take}
-use Rattle.std.specs.Prelude.{flat_map}
-use Rattle.gain_model.specs.Gains.{part_visits}
-use Rattle.move_core.specs.inside.Routes.{lists_of}
-use Rattle.move_core.proofs.route_lists.joined.Given as goal
-
-abbrev pub invariant-loop-part : goal.invariant-loop-part
-invariant-loop-part l = l.list.items ≡ flat_map (part_visits (lists_of l.routes)) (take l.part-index l.parts)

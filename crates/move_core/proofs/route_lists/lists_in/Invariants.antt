@@ -1,6 +1,0 @@
-use Rattle.std.proofs.Common.{◌≡◌, take}
-use Rattle.move_core.specs.inside.Routes.{lists_of}
-use Rattle.move_core.proofs.route_lists.lists_in.Given as goal
-
-abbrev pub invariant-loop-route : goal.invariant-loop-route
-invariant-loop-route l = l.lists.items ≡ lists_of (take l.route-index l.routes)

@@ -1,6 +1,0 @@
-use Rattle.std.proofs.Common.{◌<◌, ℕ, slice_index_or, Option}
-use Rattle.move_core.specs.inside.Unused.{IsLeast}
-use Rattle.move_core.proofs.unused.fill_unused.Given as goal
-
-abbrev pub invariant-loop-vehicle_type : goal.invariant-loop-vehicle_type
-invariant-loop-vehicle_type l = (type : ℕ) (none : Option ℕ) → type < l.vehicle_type → IsLeast l.given l.sizes type (slice_index_or l.unused type none)

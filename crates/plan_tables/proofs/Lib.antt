@@ -1,0 +1,10 @@
+pub mod FreeVehicles
+pub mod LeastVehicles
+pub mod LeftVehicles
+pub mod ListRoutes
+pub mod MovedClients
+pub mod Positions
+pub mod PositionsAmong
+pub mod RouteFigures
+pub mod SpotMarks
+pub mod WrittenBack
