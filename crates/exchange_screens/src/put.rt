@@ -21,8 +21,8 @@ pub(crate) fn put(search: &Search<'_>, trial: Trial) -> Option<Change>
     requires few { trial.n ≤ 3 }
     ensures { MatchOption result (IsAnswer search.now trial None) (λ change. IsChange search.now trial change) }
 {
-    let piece = piece_from(search, trial.client, trial.n)?;
     let aim = aim_of(search, trial.target)?;
+    let piece = piece_from(search, trial.client, trial.n)?;
     if aim.vehicle == piece.vehicle {
         put_within(search, trial, piece, aim)
     } else {

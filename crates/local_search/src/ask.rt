@@ -1,5 +1,5 @@
 //! Calls of one boxed operator.
-ghost use Rattle.std.specs.Prelude.{◌≡◌, ◌<◌, OnOk};
+ghost use Rattle.std.specs.Prelude.{◌≡◌, ◌<◌, None, OnOk};
 ghost use Rattle.problem_data.specs.declared.problem.Problem.{Problem};
 ghost use Rattle.problem_data.specs.Places.{vehicle_count};
 ghost use Rattle.problem_data.specs.Reads.{OneMore, RoseAtMost};
@@ -27,23 +27,28 @@ pub(crate) fn prepare_one(
     op.prepare(search, reads)
 }
 
-/// Asks an operator for a candidate.
+/// Asks an operator for a candidate: what it answers is found. Nothing large is copied where that is none.
 pub(crate) fn evaluate_one(
     op: &mut Box<dyn Operator + Send>,
     search: &Search<'_>,
     candidate: Candidate,
+    found: &mut Option<Gain>,
     reads: &mut Steps<Reads>,
-) -> Option<Gain>
+)
+    requires none { found.old ≡ None }
     requires fits { fits op.old search.now.problem search.now.routes search.now.weights }
     requires kind { kind_of_candidate candidate ≡ kind_of op.old }
-    ensures answer { IsEvaluation search.now.problem search.now.weights search.now.routes candidate result }
+    ensures answer { IsEvaluation search.now.problem search.now.weights search.now.routes candidate found.new }
     ensures fits { fits op.new search.now.problem search.now.routes search.now.weights }
     ensures kind { kind_of op.new ≡ kind_of op.old }
     ensures tried { OneMore (tally_of op.old).tried (tally_of op.new).tried }
     ensures applied { (tally_of op.new).applied ≡ (tally_of op.old).applied }
     ensures reads { RoseAtMost (operator_reads search.now.problem search.now.routes candidate) reads.old reads.new }
 {
-    op.evaluate(search, candidate, reads)
+    match op.evaluate(search, candidate, reads) {
+        Some(gain) => *found = Some(gain),
+        None => {}
+    }
 }
 
 /// Tells an operator of a vehicle's list.

@@ -1,5 +1,5 @@
 //! Calls of the operators of a kit.
-ghost use Rattle.std.specs.Prelude.{◌≡◌, ◌<◌, ℕ, List, length, map, All, slice_index_or, OnOk, IfSome, Option};
+ghost use Rattle.std.specs.Prelude.{◌≡◌, ◌<◌, ℕ, List, length, map, All, slice_index_or, None, OnOk, IfSome, Option};
 ghost use Rattle.problem_data.specs.declared.problem.Problem.{Problem};
 ghost use Rattle.problem_data.specs.Places.{vehicle_count};
 ghost use Rattle.problem_data.specs.Reads.{OneMore};
@@ -69,24 +69,26 @@ pub(crate) fn changed_both(
     }
 }
 
-/// Asks the operator at a place for a candidate of its kind.
+/// Asks the operator at a place for a candidate of its kind: what it answers is found.
 pub(crate) fn evaluate_at(
     kit: &mut [Box<dyn Operator + Send>],
     at: usize,
     search: &Search<'_>,
     candidate: Candidate,
+    found: &mut Option<Gain>,
     reads: &mut Steps<Reads>,
-) -> Option<Gain>
+)
+    requires none { found.old ≡ None }
     requires at { at < length kit.old }
     requires fits { All (λ b. fits b search.now.problem search.now.routes search.now.weights) kit.old }
     requires kind { slice_index_or (map kind_of kit.old) at (kind_of_candidate candidate) ≡ kind_of_candidate candidate }
-    ensures answer { IsEvaluation search.now.problem search.now.weights search.now.routes candidate result }
+    ensures answer { IsEvaluation search.now.problem search.now.weights search.now.routes candidate found.new }
     ensures fits { All (λ b. fits b search.now.problem search.now.routes search.now.weights) kit.new }
     ensures kinds { map kind_of kit.new ≡ map kind_of kit.old }
     ensures tried { RoseTogether 1 (all_tried (map tally_of kit.old)) (all_tried (map tally_of kit.new)) }
     ensures applied { all_applied (map tally_of kit.new) ≡ all_applied (map tally_of kit.old) }
 {
-    evaluate_one(&mut kit[at], search, candidate, reads)
+    evaluate_one(&mut kit[at], search, candidate, found, reads)
 }
 
 /// Counts an applied move of the operator at a place.

@@ -96,7 +96,9 @@ pub(crate) fn try_candidate(
     ensures stopped { OnErr result (Stopped search.old.problem search.old.weights (candidate ∷ []) search.old search.new) }
 {
     memory.count();
-    match evaluate_at(kit, at, search, candidate, reads) {
+    let mut found = None;
+    evaluate_at(kit, at, search, candidate, &mut found, reads);
+    match found {
         Some(gain) => {
             take(search, kit, memory, at, gain, reads)?;
             Ok(())

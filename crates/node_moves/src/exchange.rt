@@ -88,14 +88,12 @@ fn is_hopeless(search: &Search<'_>, trial: Trial) -> bool
 }
 
 /// The answer to a trial: nothing is copied or allocated, and a change that surely doesn't lower the cost isn't costed.
+#[inline(never)]
 fn answer(search: &Search<'_>, trial: Trial, reads: &mut Steps<Reads>) -> Option<Gain>
     requires { IsExchange trial.n trial.m }
     ensures answer { IsAnswer search.now trial result }
     ensures reads { RoseAtMost answer_reads reads.old reads.new }
 {
-    if is_hopeless(search, trial) {
-        return None;
-    }
     let change = change_of(search, trial)?;
     if is_dear(search, change, reads) {
         return None;
@@ -134,6 +132,9 @@ impl Operator for Exchange {
             client,
             target,
         };
+        if is_hopeless(search, trial) {
+            return None;
+        }
         answer(search, trial, reads)
     }
 
