@@ -1,4 +1,4 @@
-mod KeyedRows
+mod KeyedPlaces
+mod NearestKeys
 mod NeighbourLists
 mod PairRange
-mod RowNeighbours

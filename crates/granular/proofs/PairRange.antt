@@ -1,9 +1,13 @@
--- The numbers of all pairs, and those of a row.
-use Rattle.std.proofs.Common.{◌≡◌, ◌<◌, ◌≤◌, ◌-◌, ◌+◌, ◌∙◌, ℕ, zero, suc, length, get_or, map, take, drop, ap, ap₂, arith}
-use Rattle.std.specs.Prelude.{slice_range}
+-- The numbers of pairs, row after row.
+use Rattle.std.proofs.Common.{◌≡◌, ◌<◌, ◌≤◌, ◌-◌, ◌+◌, ◌*◌, ◌∙◌, ℕ, length, get_or, map, ap₂, arith, mul-le-mul_right}
 use Rattle.std.specs.List.{range_with_len}
-use Rattle.std.proofs.lemmas.List.{drop-map}
-use Rattle.std.proofs.lemmas.List.FromFn.{get_or-range_with_len, length-range_with_len, take-map-range_with_len}
+use Rattle.std.proofs.lemmas.List.FromFn.{get_or-map-range_with_len, get_or-range_with_len, length-range_with_len}
+use Rattle.std.proofs.lemmas.Nat.{div-mul-add, mod-mul-add}
+use Rattle.problem_data.specs.declared.problem.Problem.{Problem}
+use Rattle.problem_data.specs.Places.{depot_count}
+use Rattle.search_model.specs.Neighbours.{near}
+use Rattle.granular.specs.declared.proximity.Proximity.{Proximity}
+use Rattle.granular.specs.Pairs.{all_nears, pair_near}
 
 -- each number of a range from 0 is below its end
 pub below-end : (n k d : ℕ) → k < length (range_with_len 0 (n - 0)) → get_or (range_with_len 0 (n - 0)) k d < n
@@ -13,18 +17,21 @@ below-end n k d h =
     let is : get_or (range_with_len 0 (n - 0)) k d ≡ 0 + k = get_or-range_with_len 0 (n - 0) k d inside in
     omega arith
 
-drop-range : (a s n : ℕ) → drop a (range_with_len s n) ≡ range_with_len (s + a) (n - a)
-drop-range zero s n = let start : s ≡ s + 0 = omega arith in let left : n ≡ n - 0 = omega arith in ap₂ range_with_len start left
-drop-range (suc a) s zero = let left : 0 ≡ 0 - suc a = omega arith in ap (range_with_len (s + suc a)) left
-drop-range (suc a) s (suc n) =
-    let far : s + 1 + a ≡ s + suc a = omega arith in
-    let left : n - a ≡ suc n - suc a = omega arith in
-    drop-range a (s + 1) n ∙ ap₂ range_with_len far left
+-- the number of the pair of i and j
+pub pair-below : (n i j : ℕ) → i < n → j < n → i * n + j < n * n
+pair-below n i j h k = omega (arith, mul-le-mul_right n h)
 
--- a part of what a function makes of a range
-pub slice-map-range : (f : ℕ → ℕ) (n a m : ℕ) → a + m ≤ n → slice_range (map f (range_with_len 0 n)) a (a + m) ≡ map f (range_with_len a m)
-slice-map-range f n a m h =
-    let many : a + m - a ≡ m = omega arith in
-    let few : m ≤ n - a = omega arith in
-    let from : 0 + a ≡ a = omega arith in
-    ap₂ take many (drop-map f a (range_with_len 0 n) ∙ ap (map f) (drop-range a 0 n ∙ ap (λ s. range_with_len s (n - a)) from)) ∙ take-map-range_with_len f a (n - a) m few
+-- a pair whose number is told
+pub pair-is : (p : Problem) (weights : Proximity) (i j : ℕ) → j < length p.clients →
+    pair_near p weights (i * length p.clients + j) ≡ near p weights.wait weights.warp (depot_count p + i) (depot_count p + j)
+unfolding pair_near
+pair-is p weights i j below =
+    ap₂ (λ (a b : ℕ). near p weights.wait weights.warp (depot_count p + a) (depot_count p + b))
+    (div-mul-add i (length p.clients) j below) (mod-mul-add i (length p.clients) j below)
+
+-- the entry of i and j
+pub entry-is : (p : Problem) (weights : Proximity) (i j d : ℕ) → i < length p.clients → j < length p.clients →
+    get_or (all_nears p weights) (i * length p.clients + j) d ≡ near p weights.wait weights.warp (depot_count p + i) (depot_count p + j)
+entry-is p weights i j d h k =
+    let n : ℕ = length p.clients in
+    get_or-map-range_with_len (pair_near p weights) 0 (n * n) (i * n + j) (i * n + j) d (pair-below n i j h k) (omega arith) ∙ pair-is p weights i j k

@@ -3,8 +3,8 @@
 
 mod near_clients;
 mod nearest;
+mod nears;
 mod neighbour_lists;
-mod proximities;
 mod proximity;
 
 pub use near_clients::neighbours;

@@ -1,7 +1,9 @@
 -- What a sort gives: under a total order, a sorted permutation of a list is the list put in order.
-use Rattle.std.proofs.Common.{◌≡◌, ◌∙◌, sym, refl, ap, ℕ, zero, suc, ◌<◌, ◌+◌, ◌||◌, ◌&&◌, ◌==◌, nat_lt, Bool, true, false, cond, List, [], ◌∷◌, length, arith, ⊎_elim}
+use Rattle.std.proofs.Common.{◌≡◌, ◌∙◌, sym, refl, ap, ap₂, ℕ, zero, suc, ◌<◌, ◌+◌, ◌||◌, ◌&&◌, ◌==◌, nat_lt, Bool, true, false, cond, List, [], ◌∷◌, ◌++◌, length, take, arith, ⊎_elim}
+use Rattle.std.specs.Prelude.{not}
+use Rattle.std.specs.List.{list_all}
 use Rattle.std.specs.Cmp.{IsStrictWeakOrder}
-use Rattle.std.specs.List.Sorted.{IsPermutation, IsSorted, IsSortedBy}
+use Rattle.std.specs.List.Sorted.{IsPermutation, IsSorted, IsSortedBy, IsSplitAround, IsSplitAroundBy}
 use Rattle.std.specs.Ordering.{is_lt, nat_cmp, ordering_then}
 use Rattle.std.specs.declared.cmp.Ordering.{Ordering}
 use Rattle.std.specs.List.{swap}
@@ -22,6 +24,33 @@ more k = omega arith
 
 contradiction : (b : Bool) → b ≡ true → b ≡ false → ⊥
 contradiction b t f = cc
+
+and-left : (a b : Bool) → (a && b) ≡ true → a ≡ true
+and-left true b h = refl
+and-left false b h = h
+
+and-right : (a b : Bool) → (a && b) ≡ true → b ≡ true
+and-right true b h = h
+and-right false b h = cc
+
+not-true : (b : Bool) → not b ≡ true → b ≡ false
+not-true true h = cc
+not-true false h = refl
+
+not-false : (b : Bool) → b ≡ false → not b ≡ true
+not-false b h = rw h refl
+
+take-front : {X : Type 0} (xs ys : List X) → take (length xs) (xs ++ ys) ≡ xs
+take-front [] ys = refl
+take-front (x ∷ xs) ys = ap (λ (t : List _). x ∷ t) (take-front xs ys)
+
+-- a test that holds of each element holds of all
+all-from : {X : Type 0} (p : X → Bool) (xs : List X) → ((k : ℕ) (d : X) → k < length xs → p (get_or xs k d) ≡ true) → list_all p xs ≡ true
+all-from p [] h = refl
+all-from p (x ∷ xs) h = rw (h 0 x (omega arith), all-from p xs (λ k d l. h (suc k) d (omega arith))) refl
+
+all-of : {X : Type 0} (p : X → Bool) (x : X) (xs : List X) → p x ≡ true → ((k : ℕ) (d : X) → k < length xs → p (get_or xs k d) ≡ true) → list_all p (x ∷ xs) ≡ true
+all-of p x xs h g = rw (h, all-from p xs g) refl
 
 module _ {X : Type 0} (before : X → X → Bool) (o : IsTotalTest before) where
   before_itself : (x : X) → before x x ≡ false
@@ -100,7 +129,8 @@ module _ {X : Type 0} (before : X → X → Bool) (o : IsTotalTest before) where
       let second = sorted-set w j a d (omega arith) in
       put_same b _ _ (sym (ap (λ (z : X). put_in_order before z (sorted_by before (set w j a))) there) ∙ sym second ∙ sym first)
 
-  sorted-IsPermutation : (xs ys : List X) → IsPermutation xs ys → sorted_by before ys ≡ sorted_by before xs
+  -- a list's permutations are put in the same order
+  pub sorted-IsPermutation : (xs ys : List X) → IsPermutation xs ys → sorted_by before ys ≡ sorted_by before xs
   sorted-IsPermutation xs ys p =
       IsPermutation-keeps xs (λ l. sorted_by before l ≡ sorted_by before xs) refl (λ l i j h k e. sorted-swap l i j h k ∙ e) ys p
 
@@ -118,6 +148,61 @@ module _ {X : Type 0} (before : X → X → Bool) (o : IsTotalTest before) where
   -- a list's sorted permutation is the list put in order
   pub sorted_by-from_sort : (xs ys : List X) → IsPermutation xs ys → IsSortedBy before ys → ys ≡ sorted_by before xs
   sorted_by-from_sort xs ys p s = sym (sorted-sorted ys s) ∙ sorted-IsPermutation xs ys p
+
+  -- a test that holds of x and of all of a list holds of all when x is put in, and of all in order
+  all-put : (p : X → Bool) (x : X) (ys : List X) → p x ≡ true → list_all p ys ≡ true → list_all p (put_in_order before x ys) ≡ true
+  all-put p x [] h g = rw h refl
+  all-put p x (y ∷ ys) h g = by (all-put p x ys h (and-right (p y) (list_all p ys) g)) (before y x)
+    where
+      by : list_all p (put_in_order before x ys) ≡ true → (b : Bool) → list_all p (cond b (y ∷ put_in_order before x ys) (x ∷ y ∷ ys)) ≡ true
+      by rest true = rw (and-left (p y) (list_all p ys) g, rest) refl
+      by rest false = rw (h, g) refl
+
+  all-sorted : (p : X → Bool) (xs : List X) → list_all p xs ≡ true → list_all p (sorted_by before xs) ≡ true
+  all-sorted p [] h = refl
+  all-sorted p (x ∷ xs) h = all-put p x (sorted_by before xs) (and-left (p x) (list_all p xs) h) (all-sorted p xs (and-right (p x) (list_all p xs) h))
+
+  -- x is put into the first of two lists where nothing of the second one comes before it
+  put-append : (x : X) (ys zs : List X) → list_all (λ z. not (before z x)) zs ≡ true → put_in_order before x (ys ++ zs) ≡ put_in_order before x ys ++ zs
+  put-append x [] [] h = refl
+  put-append x [] (z ∷ zs) h = rw (not-true (before z x) (and-left (not (before z x)) (list_all (λ z. not (before z x)) zs) h)) refl
+  put-append x (y ∷ ys) zs h = by (put-append x ys zs h) (before y x)
+    where
+      by : put_in_order before x (ys ++ zs) ≡ put_in_order before x ys ++ zs → (b : Bool) →
+          cond b (y ∷ put_in_order before x (ys ++ zs)) (x ∷ y ∷ (ys ++ zs)) ≡ cond b (y ∷ put_in_order before x ys) (x ∷ y ∷ ys) ++ zs
+      by rest true = ap (λ (t : List X). y ∷ t) rest
+      by rest false = refl
+
+  -- two lists in order, where nothing of the second one comes before an element of the first
+  sorted-append : (xs ys : List X) → ((k : ℕ) (d : X) → k < length xs → list_all (λ y. not (before y (get_or xs k d))) ys ≡ true) →
+      sorted_by before (xs ++ ys) ≡ sorted_by before xs ++ sorted_by before ys
+  sorted-append [] ys h = refl
+  sorted-append (x ∷ xs) ys h =
+      ap (put_in_order before x) (sorted-append xs ys (λ k d l. h (suc k) d (omega arith)))
+      ∙ put-append x (sorted_by before xs) (sorted_by before ys) (all-sorted (λ y. not (before y x)) ys (h 0 x (omega arith)))
+
+  length-put : (x : X) (ys : List X) → length (put_in_order before x ys) ≡ suc (length ys)
+  length-put x [] = refl
+  length-put x (y ∷ ys) = by (length-put x ys) (before y x)
+    where
+      by : length (put_in_order before x ys) ≡ suc (length ys) → (b : Bool) → length (cond b (y ∷ put_in_order before x ys) (x ∷ y ∷ ys)) ≡ suc (suc (length ys))
+      by rest true = ap suc rest
+      by rest false = refl
+
+  -- as many as before
+  pub length-sorted : (xs : List X) → length (sorted_by before xs) ≡ length xs
+  length-sorted [] = refl
+  length-sorted (x ∷ xs) = length-put x (sorted_by before xs) ∙ ap suc (length-sorted xs)
+
+  -- the front of a list that is split around an element, put in order, is the beginning of the list put in order
+  pub sorted-front : (xs front : List X) (x : X) (back : List X) → IsPermutation xs (front ++ x ∷ back) → IsSplitAroundBy before front x back →
+      sorted_by before front ≡ take (length front) (sorted_by before xs)
+  sorted-front xs front x back p s =
+      let behind : (k : ℕ) (d : X) → k < length front → list_all (λ y. not (before y (get_or front k d))) (x ∷ back) ≡ true =
+      λ k d l. all-of (λ y. not (before y (get_or front k d))) x back (not-false (before x (get_or front k d)) (s.0 k d l))
+      (λ j e m. not-false (before (get_or back j e) (get_or front k d)) (o.order.chain (get_or back j e) x (get_or front k d) (s.1 j e m) (s.0 k d l))) in
+      let all : sorted_by before xs ≡ sorted_by before front ++ sorted_by before (x ∷ back) = sym (sorted-IsPermutation xs (front ++ x ∷ back) p) ∙ sorted-append front (x ∷ back) behind in
+      sym (ap₂ (λ (n : ℕ) (l : List X). take n l) (sym (length-sorted front)) all ∙ take-front (sorted_by before front) (sorted_by before (x ∷ back)))
 
 one_way_by : (a b c d : ℕ) → (nat_lt a c || ((a == c) && nat_lt b d)) ≡ true → (nat_lt c a || ((c == a) && nat_lt d b)) ≡ false
 one_way_by a b c d h = grind (arith, nat_tests)
@@ -154,3 +239,11 @@ pair_compares x y = compares x.0 x.1 y.0 y.1
 -- what `sort` gives of pairs
 pub pairs-from_sort : (xs ys : List (ℕ × ℕ)) → IsPermutation xs ys → IsSorted pair_cmp ys → ys ≡ sorted_by pair_lt xs
 pairs-from_sort xs ys p s = sorted_by-from_sort pair_lt pair_lt-total xs ys p (λ k d l m. sym (pair_compares (get_or ys (k + 1) d) (get_or ys k d)) ∙ s k d l m)
+
+-- what `select_nth_unstable` of pairs puts first, in order
+pub pairs-front : (count : ℕ) (xs front : List (ℕ × ℕ)) (x : ℕ × ℕ) (back : List (ℕ × ℕ)) → IsPermutation xs (front ++ x ∷ back) → length front ≡ count →
+    IsSplitAround pair_cmp front x back → sorted_by pair_lt front ≡ take count (sorted_by pair_lt xs)
+pairs-front count xs front x back p e s =
+    sorted-front pair_lt pair_lt-total xs front x back p
+    ((λ k d l. sym (pair_compares x (get_or front k d)) ∙ s.0 k d l), (λ k d l. sym (pair_compares (get_or back k d) x) ∙ s.1 k d l))
+    ∙ ap (λ (n : ℕ). take n (sorted_by pair_lt xs)) e

@@ -228,8 +228,8 @@ impl<'d> Search<'d> {
         self.facts.reload_types
     }
 
-    /// Keeps what a look at a client and a neighbour found, in the place of what was kept: marks of exchanges, in their order, whose move of
-    /// the client behind the neighbour gives nothing. It is forgotten as the lists change.
+    /// Keeps what a look at a client and a neighbour found, in the place of what was kept: marks of exchanges, in their order, whose
+    /// move of the client behind the neighbour gives nothing. It is forgotten as the lists change.
     pub fn note_hopeless(&mut self, client: u32, neighbour: u32, hopeless: [bool; 9])
         requires { AreHopeless self.old client neighbour hopeless }
         ensures { self.new ≡ self.old }

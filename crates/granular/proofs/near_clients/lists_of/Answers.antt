@@ -15,8 +15,8 @@ loop-index-preserved c =
     let index : ℕ = c.loop-index.index in
     let f = neighbours_of p c.args.count c.args.weights.wait c.args.weights.warp in
     ap (λ (lists : List (Vec ℕ Global)). items_of lists ++ map f (range_with_len (depot_count p + (index + 1)) (length p.clients - (index + 1)))) c.in_ok-push.ensures.items
-    ∙ lists-more f (depot_count p) index (length p.clients) c.loop-index.lists.items c.in_ok-client_list.field-0 (neighbours p c.args.count c.args.weights.wait c.args.weights.warp)
-    (omega (arith, c.client_places-clients.ensures.start, c.client_places-clients.ensures.end, c.loop-index-test.true)) c.in_ok-client_list.ensures c.loop-index.invariant
+    ∙ lists-more f (depot_count p) index (length p.clients) c.loop-index.lists.items c.in_ok-nearest.field-0 (neighbours p c.args.count c.args.weights.wait c.args.weights.warp)
+    (omega (arith, c.client_places-clients.ensures.start, c.client_places-clients.ensures.end, c.loop-index-test.true)) c.in_ok-nearest.ensures c.loop-index.invariant
 
 pub returns : goal.returns
 returns c =

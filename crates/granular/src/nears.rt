@@ -1,9 +1,9 @@
-//! How near clients are to one another.
+//! How far clients are after one another.
 ghost use Rattle.std.specs.Prelude.{◌≡◌, ◌*◌, ◌<◌, ◌≤◌, IfOk, IsTrue, length};
 ghost use Rattle.problem_data.specs.Places.{is_client_place};
 ghost use Rattle.problem_data.specs.Valid.{IsValid};
-ghost use Rattle.search_model.specs.Neighbours.{near, proximity};
-ghost use Rattle.granular.specs.Rows.{AreWeights, all_proximities, pair_proximity};
+ghost use Rattle.search_model.specs.Neighbours.{near};
+ghost use Rattle.granular.specs.Pairs.{AreWeights, all_nears, pair_near};
 
 use crate::proximity::Proximity;
 use problem_data::{NoMemory, ProblemData, Reads, Steps, leg};
@@ -37,35 +37,12 @@ fn near(
     1000 * u64::from(leg.distance) + weights.wait * wait + weights.warp * warp
 }
 
-/// How near two clients are: by the nearer of their two orders.
-fn proximity(
-    given: &ProblemData,
-    first: u32,
-    second: u32,
-    weights: Proximity,
-    reads: &mut Steps<Reads>,
-) -> u64
-    requires first { IsTrue (is_client_place given.now first) }
-    requires second { IsTrue (is_client_place given.now second) }
-    requires weights { AreWeights weights }
-    ensures { result ≡ proximity given.now weights.wait weights.warp first second }
-{
-    let there = near(given, first, second, weights, reads);
-    let back = near(given, second, first, weights, reads);
-    there.min(back)
-}
-
-/// How near the clients of the k-th pair are, pairs being counted row after row.
-#[tactic(auto, unfolding(crate::specs::Rows::pair_proximity))]
-fn pair_proximity<R: Threads + Sync>(
-    rt: &R,
-    given: &ProblemData,
-    weights: Proximity,
-    k: usize,
-) -> u64
+/// How far the second client of the k-th pair is after the first, pairs being counted row after row.
+#[tactic(auto, unfolding(crate::specs::Pairs::pair_near))]
+fn pair_near<R: Threads + Sync>(rt: &R, given: &ProblemData, weights: Proximity, k: usize) -> u64
     requires pair { k < length given.now.clients * length given.now.clients }
     requires weights { AreWeights weights }
-    ensures { result ≡ pair_proximity given.now weights k }
+    ensures { result ≡ pair_near given.now weights k }
 {
     given.validity();
     let clients = given.client_places();
@@ -73,18 +50,18 @@ fn pair_proximity<R: Threads + Sync>(
     let first = clients.start + (k / count) as u32;
     let second = clients.start + (k % count) as u32;
     let mut reads = Steps::new(rt);
-    proximity(given, first, second, weights, &mut reads)
+    near(given, first, second, weights, &mut reads)
 }
 
-/// The proximities of all pairs of clients, row after row. They are computed side by side.
-pub(crate) fn proximities<R: Threads + Sync>(
+/// How far each client is after each client, row after row. The pairs are computed side by side.
+pub(crate) fn all_nears<R: Threads + Sync>(
     rt: &R,
     alloc: Global,
     given: &ProblemData,
     weights: Proximity,
 ) -> Result<Vec<u64>, NoMemory>
     requires { AreWeights weights }
-    ensures { IfOk result (λ made. made.items ≡ all_proximities given.now weights) }
+    ensures { IfOk result (λ made. made.items ≡ all_nears given.now weights) }
 {
     given.validity();
     let clients = given.problem().clients.items().len();
@@ -94,8 +71,8 @@ pub(crate) fn proximities<R: Threads + Sync>(
             |k: usize| -> u64
                 requires pair { k < length given.now.clients * length given.now.clients }
                 requires weights { AreWeights weights }
-                ensures { result ≡ pair_proximity given.entry.now weights k }
-            { pair_proximity(rt, given, weights, k) },
+                ensures { result ≡ pair_near given.entry.now weights k }
+            { pair_near(rt, given, weights, k) },
         )
         .collect(rt, alloc)?;
     Ok(made)
