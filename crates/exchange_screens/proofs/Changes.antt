@@ -1,30 +1,28 @@
 -- What trials change, from the laws of their moves.
-use Rattle.std.proofs.Common.{◌≡◌, ◌≢◌, ℕ, suc, ◌<◌, ◌≤◌, true, List, [], ◌∷◌, ◌++◌, length, get_or, set, sym, ◌∙◌, ap, subst, arith, slice_range}
+use Rattle.std.proofs.Common.{◌≡◌, ◌≢◌, ℕ, suc, ◌<◌, ◌≤◌, List, [], ◌∷◌, ◌++◌, length, ap, subst, arith, slice_range}
 use Rattle.std.specs.Prelude.{All}
-use Rattle.std.proofs.lemmas.List.{append-nil, get_or-set_other, get_or-set_same, length-set}
-use Rattle.std.proofs.lemmas.List.Elements.{All-get_or}
+use Rattle.std.proofs.lemmas.List.{append-nil}
 use Rattle.problem_data.specs.declared.visit.Visit.{Visit}
 use Rattle.problem_data.specs.Places.{vehicle_count}
-use Rattle.routing_model.specs.Lawful.{is_lawful}
-use Rattle.routing_model.specs.Listed.{IsListed}
-use Rattle.routing_model.specs.Routes.{Routes, list_at}
+use Rattle.routing_model.specs.Routes.{list_at}
 use Rattle.search_model.specs.declared.candidate.Target.TheVariants.{After}
-use Rattle.route_cache.proofs.LawfulLists.{lawful-listed}
 use Rattle.move_core.specs.Searches.{IsSound, SearchState}
-use Rattle.exchange_screens.specs.declared.aim.Aim.{Aim}
-use Rattle.exchange_screens.specs.declared.change.Change.TheVariants.{One, Two}
-use Rattle.exchange_screens.specs.declared.gap.Gap.{Gap}
-use Rattle.exchange_screens.specs.declared.layout.Layout.{Layout}
+use Rattle.list_changes.specs.declared.aim.Aim.{Aim}
+use Rattle.list_changes.specs.declared.change.Change.TheVariants.{One, Two}
+use Rattle.list_changes.specs.declared.gap.Gap.{Gap}
+use Rattle.list_changes.specs.declared.layout.Layout.{Layout}
 use Rattle.exchange_screens.specs.declared.piece.Piece.{Piece}
 use Rattle.exchange_screens.specs.declared.trial.Trial.{Trial}
-use Rattle.exchange_screens.specs.inside.Aims.{IsAim}
-use Rattle.exchange_screens.specs.Changes.{IsChange, Makes, most_lent, new_list}
-use Rattle.exchange_screens.specs.inside.Gaps.{IsGap}
-use Rattle.exchange_screens.specs.Layouts.{IsLayout, IsSpan, runs_of}
+use Rattle.list_changes.specs.Aims.{IsAim}
+use Rattle.list_changes.specs.Moves.{Makes}
+use Rattle.list_changes.specs.Gaps.{IsGap}
+use Rattle.list_changes.specs.Layouts.{IsLayout, IsSpan, runs_of}
 use Rattle.exchange_screens.specs.inside.Pieces.{IsPieceFrom}
-use Rattle.exchange_screens.specs.Trials.{IsOwn, candidate_of}
-use Rattle.exchange_screens.proofs.LaidLists.{slice-size}
-use Rattle.exchange_screens.proofs.OwnVehicles.{aim-vehicle, own-one, own-two, piece-vehicle}
+use Rattle.exchange_screens.specs.Trials.{candidate_of, IsChange, IsOwn, most_lent}
+use Rattle.list_changes.proofs.LaidLists.{slice-size}
+use Rattle.list_changes.proofs.LaidMoves.{move-one, move-two}
+use Rattle.list_changes.proofs.NodeVehicles.{aim-vehicle}
+use Rattle.exchange_screens.proofs.OwnVehicles.{own-one, own-two, piece-vehicle}
 use Rattle.exchange_screens.proofs.PutLaws.{aim-within, earlier_layout, later_layout, moves-across, moves-earlier, moves-later, nothing, span_of_piece, with_layout, without_layout}
 use Rattle.exchange_screens.proofs.SwapLaws.{other_layout, swapped_layout, swaps-across, swaps-earlier, swaps-later}
 
@@ -43,61 +41,18 @@ piece-few s u n piece is few =
     let long = is.long in
     omega arith
 
--- the vehicles can have the lists of a lawful plan
-module _ (s : SearchState) (sound : IsSound s) where
-  listed-at : (routes : Routes) (vehicle : ℕ) → vehicle < length routes → is_lawful s.problem routes ≡ true → IsListed s.problem (get_or routes vehicle [])
-  listed-at routes vehicle there lawful = All-get_or (IsListed s.problem) routes vehicle [] there (lawful-listed s.problem routes sound.valid lawful)
+-- one new list, and two with few visits of another list
+module _ (s : SearchState) (sound : IsSound s) (trial : Trial) (a : ℕ) (in_a : a < vehicle_count s.problem) where
+  change-one : (layout : Layout) → IsLayout (list_at s.routes a) (list_at s.routes a) layout → Makes s (candidate_of trial) (One a layout) → All (IsOwn s trial) (a ∷ []) → IsChange s trial (One a layout)
+  change-one layout laid moves own = record { move = move-one s sound (candidate_of trial) a in_a layout laid moves own; few = tt }
 
-  listed-one : (a : ℕ) (xs : List Visit) → a < vehicle_count s.problem → is_lawful s.problem (set s.routes a xs) ≡ true → IsListed s.problem xs
-  listed-one a xs in_a lawful =
-      let each = sound.one_list_each in
-      let long = length-set s.routes a xs in
-      subst (IsListed s.problem) (get_or-set_same s.routes a xs [] (omega arith)) (listed-at (set s.routes a xs) a (omega arith) lawful)
-
-  listed-second : (a b : ℕ) (xs ys : List Visit) → b < vehicle_count s.problem → is_lawful s.problem (set (set s.routes a xs) b ys) ≡ true → IsListed s.problem ys
-  listed-second a b xs ys in_b lawful =
-      let each = sound.one_list_each in
-      let long = length-set s.routes a xs in
-      let long' = length-set (set s.routes a xs) b ys in
-      subst (IsListed s.problem) (get_or-set_same (set s.routes a xs) b ys [] (omega arith)) (listed-at (set (set s.routes a xs) b ys) b (omega arith) lawful)
-
-  listed-first : (a b : ℕ) (xs ys : List Visit) → a < vehicle_count s.problem → b ≢ a → is_lawful s.problem (set (set s.routes a xs) b ys) ≡ true → IsListed s.problem xs
-  listed-first a b xs ys in_a apart lawful =
-      let each = sound.one_list_each in
-      let long = length-set s.routes a xs in
-      let long' = length-set (set s.routes a xs) b ys in
-      subst (IsListed s.problem) (get_or-set_other (set s.routes a xs) b a ys [] (λ e. apart (sym e)) ∙ get_or-set_same s.routes a xs [] (omega arith))
-      (listed-at (set (set s.routes a xs) b ys) a (omega arith) lawful)
-
-  -- one side, and two
-  module _ (trial : Trial) (a : ℕ) (in_a : a < vehicle_count s.problem) where
-    change-one : (layout : Layout) → IsLayout (list_at s.routes a) (list_at s.routes a) layout → Makes s (candidate_of trial) (One a layout) → All (IsOwn s trial) (a ∷ []) → IsChange s trial (One a layout)
-    change-one layout laid moves own = record {
-      laid = record { in_range = in_a; lender_in_range = in_a; laid = laid; listed = listed-one a (new_list s.routes a a layout) in_a moves.lawful };
-      makes = moves;
-      own = own;
-    }
-
-    module _ (b : ℕ) (in_b : b < vehicle_count s.problem) (apart : b ≢ a) (one two : Layout) where
-      abbrev A : List Visit
-      A = new_list s.routes a b one
-
-      abbrev B : List Visit
-      B = new_list s.routes b a two
-
-      change-two : IsLayout (list_at s.routes a) (list_at s.routes b) one → IsLayout (list_at s.routes b) (list_at s.routes a) two → length (runs_of (list_at s.routes b) one) ≤ most_lent →
-          length (runs_of (list_at s.routes a) two) ≤ most_lent → Makes s (candidate_of trial) (Two a b one two) → All (IsOwn s trial) (a ∷ b ∷ []) → IsChange s trial (Two a b one two)
-      change-two first second few few' moves own = record {
-        laid = record {
-          apart = apart;
-          first_side = record { in_range = in_a; lender_in_range = in_b; laid = first; listed = listed-first a b A B in_a apart moves.lawful };
-          second_side = record { in_range = in_b; lender_in_range = in_a; laid = second; listed = listed-second a b A B in_b moves.lawful };
-          few_first = few;
-          few_second = few';
-        };
-        makes = moves;
-        own = own;
-      }
+  change-two : (b : ℕ) → b < vehicle_count s.problem → b ≢ a → (one two : Layout) →
+      IsLayout (list_at s.routes a) (list_at s.routes b) one → IsLayout (list_at s.routes b) (list_at s.routes a) two → length (runs_of (list_at s.routes b) one) ≤ most_lent →
+      length (runs_of (list_at s.routes a) two) ≤ most_lent → Makes s (candidate_of trial) (Two a b one two) → All (IsOwn s trial) (a ∷ b ∷ []) → IsChange s trial (Two a b one two)
+  change-two b in_b apart one two first second few few' moves own = record {
+    move = move-two s sound (candidate_of trial) a in_a b in_b apart one two first second moves own;
+    few = record { first_few = few; second_few = few' };
+  }
 
 module _ (s : SearchState) (sound : IsSound s) (trial : Trial) (some : 1 ≤ trial.n) (few : trial.n ≤ 3) (piece : Piece) (is : IsPieceFrom s trial.client trial.n piece) where
   abbrev own_list : List Visit

@@ -1,9 +1,6 @@
-pub mod BoundLaws
 pub mod Changes
 pub mod DearTrials
 pub mod Exchanged
-pub mod LaidLists
-pub mod LoadLaws
 pub mod LookedTrials
 pub mod LookLaws
 pub mod OwnVehicles
@@ -11,4 +8,3 @@ pub mod PieceFacts
 pub mod PutLaws
 pub mod Starts
 pub mod SwapLaws
-pub mod WayLaws

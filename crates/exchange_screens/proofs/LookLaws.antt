@@ -1,53 +1,21 @@
 -- Why a look's bounds hold: the ways and the costs of lists with a lent run, and what two vehicles cost.
-use Rattle.std.proofs.Common.{◌≡◌, ℕ, ◌+◌, ◌*◌, ◌<◌, ◌≤◌, ◌^◌, Bool, true, false, ◌&&◌, List, length, refl, sym, ◌∙◌, ap, arith, slice_range}
+use Rattle.std.proofs.Common.{◌≡◌, ℕ, ◌+◌, ◌*◌, ◌<◌, ◌≤◌, ◌^◌, Bool, true, false, ◌&&◌, List, length, refl, ap, arith}
 use Rattle.std.specs.Prelude.{nat_eq, nat_le}
 use Rattle.std.proofs.lemmas.Bool.Decides.{nat_tests}
-use Rattle.std.proofs.lemmas.List.{append-nil}
-use Rattle.problem_data.specs.declared.problem.Problem.{Problem}
 use Rattle.problem_data.specs.declared.problem.VehicleType.{VehicleType}
 use Rattle.problem_data.specs.declared.visit.Visit.{Visit}
-use Rattle.problem_data.specs.Places.{leg_distance}
 use Rattle.routing_model.specs.Listed.{type_of_vehicle}
 use Rattle.routing_model.specs.Routes.{list_at}
-use Rattle.routing_model.proofs.Paths.{path, path_end, through}
-use Rattle.route_cache.specs.Marks.{place_along}
 use Rattle.move_core.specs.Searches.{SearchState}
-use Rattle.exchange_screens.specs.declared.change.Change.TheVariants.{Two}
-use Rattle.exchange_screens.specs.declared.layout.Layout.{Layout}
+use Rattle.list_changes.specs.declared.change.Change.TheVariants.{Two}
+use Rattle.list_changes.specs.declared.layout.Layout.{Layout}
 use Rattle.exchange_screens.specs.declared.seat.Seat.{Seat}
-use Rattle.exchange_screens.specs.Changes.{CostsNoLess, IsSide, new_list}
-use Rattle.exchange_screens.specs.Layouts.{has_no_visit, runs_of}
-use Rattle.exchange_screens.specs.inside.Bounds.{IsBound, IsLeast, IsPaid, overloaded}
-use Rattle.exchange_screens.specs.inside.Seats.{IsSeat, lent_layout}
-use Rattle.exchange_screens.specs.inside.Ways.{way_by}
-use Rattle.exchange_screens.proofs.BoundLaws.{bound-holds, driven-change, least-empty, least-used, times-most, two-no_less}
-use Rattle.exchange_screens.proofs.WayLaws.{ends-at_last, path-from_first}
-
--- the way over a lent run: the leg to its first visit, from there to its last one, and the leg behind it
-pub lent-way : (p : Problem) (t t' : VehicleType) (visits lender : List Visit) (left right i j come inner last profile : ℕ) → i < j → j ≤ length lender → profile ≡ t.profile →
-    come ≡ leg_distance p profile (place_along t visits left) (place_along t' lender (i + 1)) →
-    ((from : ℕ) → leg_distance p profile from (place_along t' lender (i + 1)) + inner ≤ path (leg_distance p profile) from (slice_range lender i j)) →
-    last ≡ leg_distance p profile (place_along t' lender j) (place_along t visits (right + 1)) →
-    come + inner + last ≤ way_by p t visits (lent_layout left right i j) (runs_of lender (lent_layout left right i j))
-lent-way p t t' visits lender left right i j come inner last profile order inside own is_come within is_last =
-    let run : List Visit = slice_range lender i j in
-    let from : ℕ = place_along t visits left in
-    let to : ℕ = place_along t visits (right + 1) in
-    let least = within from in
-    let end : path_end from run ≡ place_along t' lender j = ends-at_last p t' lender i j order inside from in
-    let behind : leg_distance p profile (path_end from run) to ≡ leg_distance p profile (place_along t' lender j) to = ap (λ (place : ℕ). leg_distance p profile place to) end in
-    let whole : way_by p t visits (lent_layout left right i j) (runs_of lender (lent_layout left right i j)) ≡ path (leg_distance p profile) from run + leg_distance p profile (path_end from run) to =
-    ap (λ (xs : List Visit). through (leg_distance p t.profile) from xs to) (append-nil run) ∙ ap (λ (n : ℕ). through (leg_distance p n) from run to) (sym own) in
-    omega (arith, least, behind, whole, is_come, is_last)
-
--- it is no less than the leg to the first visit
-pub lent-near : (p : Problem) (t t' : VehicleType) (visits lender : List Visit) (left right i j come profile : ℕ) → i < j → j ≤ length lender → profile ≡ t.profile →
-    come ≡ leg_distance p profile (place_along t visits left) (place_along t' lender (i + 1)) →
-    come ≤ way_by p t visits (lent_layout left right i j) (runs_of lender (lent_layout left right i j))
-lent-near p t t' visits lender left right i j come profile order inside own is_come =
-    let way = lent-way p t t' visits lender left right i j come 0 (leg_distance p profile (place_along t' lender j) (place_along t visits (right + 1))) profile order inside own is_come
-    (λ from. let h = path-from_first p t' lender i j order inside (leg_distance p profile) from in omega arith) refl in
-    omega arith
+use Rattle.list_changes.specs.Changes.{CostsNoLess, IsSide, new_list}
+use Rattle.list_changes.specs.Layouts.{has_no_visit, runs_of, lent_layout}
+use Rattle.list_changes.specs.Bounds.{IsBound, IsLeast, IsPaid, overloaded}
+use Rattle.exchange_screens.specs.inside.Seats.{IsSeat}
+use Rattle.list_changes.specs.Ways.{way_by}
+use Rattle.list_changes.proofs.BoundLaws.{bound-holds, driven-change, least-empty, least-used, times-most, two-no_less}
 
 -- a layout with a run has visits
 lent-some : (left right first end size : ℕ) → first < end → has_no_visit (lent_layout left right first end) size ≡ false

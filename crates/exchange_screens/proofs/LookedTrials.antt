@@ -6,19 +6,20 @@ use Rattle.search_model.specs.declared.candidate.Target.TheVariants.{After}
 use Rattle.search_model.specs.Edits.{piece}
 use Rattle.search_model.proofs.ClientPlaces.{stands-at}
 use Rattle.move_core.specs.Searches.{IsSound, SearchState}
-use Rattle.exchange_screens.specs.declared.change.Change.TheVariants.{Two}
-use Rattle.exchange_screens.specs.declared.gap.Gap.{Gap}
+use Rattle.list_changes.specs.declared.change.Change.TheVariants.{Two}
+use Rattle.list_changes.specs.declared.gap.Gap.{Gap}
 use Rattle.exchange_screens.specs.declared.lent.Lent.{Lent}
 use Rattle.exchange_screens.specs.declared.seat.Seat.{Seat}
 use Rattle.exchange_screens.specs.declared.trial.Trial.{Trial}
-use Rattle.exchange_screens.specs.Changes.{CostsNoLess, IsChange, IsSide}
-use Rattle.exchange_screens.specs.Trials.{IsAnswer}
-use Rattle.exchange_screens.specs.inside.Aims.{IsAim}
-use Rattle.exchange_screens.specs.inside.Gaps.{IsGap}
-use Rattle.exchange_screens.specs.inside.Bounds.{IsPaid}
+use Rattle.list_changes.specs.Changes.{CostsNoLess, IsSide}
+use Rattle.exchange_screens.specs.Trials.{IsAnswer, IsChange}
+use Rattle.list_changes.specs.Aims.{IsAim}
+use Rattle.list_changes.specs.Gaps.{IsGap}
+use Rattle.list_changes.specs.Bounds.{IsPaid}
 use Rattle.exchange_screens.specs.inside.Lents.{IsLent, layout_of}
 use Rattle.exchange_screens.specs.inside.Pieces.{IsPieceFrom}
-use Rattle.exchange_screens.specs.inside.Seats.{IsSeat, IsTaken, left_layout, lent_layout, piece_at, place_in}
+use Rattle.exchange_screens.specs.inside.Seats.{IsSeat, IsTaken, piece_at, place_in}
+use Rattle.list_changes.specs.Layouts.{left_layout, lent_layout}
 use Rattle.exchange_screens.proofs.Changes.{across-change, swap-across}
 use Rattle.exchange_screens.proofs.DearTrials.{dear-answer}
 use Rattle.exchange_screens.proofs.PutLaws.{no-piece}

@@ -1,17 +1,16 @@
--- What positions and marks tell of pieces and of the places that targets name.
-use Rattle.std.proofs.Common.{◌≡◌, ◌≢◌, ℕ, ◌+◌, ◌-◌, ◌<◌, ◌≤◌, Bool, true, false, ◌&&◌, length, refl, sym, ◌∙◌, ap, ap₂, subst, arith, Some, None, slice_get, slice_range}
+-- What positions and marks tell of pieces.
+use Rattle.std.proofs.Common.{◌≡◌, ℕ, ◌+◌, ◌-◌, ◌<◌, ◌≤◌, Bool, true, false, ◌&&◌, length, refl, sym, ◌∙◌, ap, ap₂, subst, arith, Some, None, slice_get, slice_range}
 use Rattle.std.specs.Prelude.{nat_le}
-use Rattle.std.specs.List.{list_all, list_any}
+use Rattle.std.specs.List.{list_all}
 use Rattle.std.proofs.lemmas.Bool.Decides.{nat_tests}
 use Rattle.problem_data.specs.declared.visit.Visit.TheVariants.{Client}
 use Rattle.problem_data.specs.Places.{vehicle_count}
 use Rattle.routing_model.specs.Routes.{is_client, list_at}
-use Rattle.search_model.specs.Edits.{begins_with, piece, position_of}
+use Rattle.search_model.specs.Edits.{piece, position_of}
 use Rattle.search_model.proofs.ClientPlaces.{StandsAt, stands-at}
 use Rattle.search_model.proofs.ExchangedPieces.{piece-none, piece-unvisited}
-use Rattle.search_model.proofs.MovedPieces.{begins-not}
 use Rattle.search_model.proofs.Pieces.{is_piece}
-use Rattle.search_model.proofs.PutMoves.{begins-unvisited, position-none}
+use Rattle.search_model.proofs.PutMoves.{position-none}
 use Rattle.search_model.proofs.RunMoves.{lawful-once}
 use Rattle.move_core.specs.Searches.{IsSound, SearchState}
 use Rattle.exchange_screens.specs.declared.piece.Piece.{Piece}
@@ -55,16 +54,6 @@ module _ (s : SearchState) (sound : IsSound s) (u n : ℕ) where
       clients = ap (λ (v : ℕ). list_all is_client (slice_range (list_at s.routes v) piece.first piece.end)) is_vehicle
           ∙ (ap₂ (λ (i j : ℕ). list_all is_client (slice_range (list_at s.routes a) i j)) is_first is_end ∙ clients);
     }
-
-    -- a client that isn't the first of its list
-    pub not-first : place ≢ 1 → list_any (begins_with u) s.routes ≡ false
-    not-first other =
-        let some = (stands-at s.routes u a place at).0 in
-        begins-not s.routes u a (place - 1) (lawful-once s.problem s.routes sound.lawful u) stands (omega arith)
-
--- nor one that isn't visited
-pub no-front : (s : SearchState) (u : ℕ) → position_of s.routes u ≡ None → list_any (begins_with u) s.routes ≡ false
-no-front s u none = begins-unvisited s.routes u (position-none s.routes u none)
 
 fits : (m n : ℕ) → m ≤ n → nat_le m n ≡ true
 fits m n h = grind (arith, nat_tests)

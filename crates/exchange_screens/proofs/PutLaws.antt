@@ -22,15 +22,15 @@ use Rattle.trips.specs.Joints.{joint_of}
 use Rattle.route_cache.specs.Gaps.{visit_before}
 use Rattle.route_cache.proofs.Gaps.{joined-earlier, joined-gap, joined-later, left_by, right_by}
 use Rattle.move_core.specs.Searches.{IsSound, SearchState}
-use Rattle.exchange_screens.specs.declared.aim.Aim.{Aim}
-use Rattle.exchange_screens.specs.declared.gap.Gap.{Gap}
-use Rattle.exchange_screens.specs.declared.layout.Layout.{Layout}
-use Rattle.exchange_screens.specs.declared.layout.Span.{Span}
+use Rattle.list_changes.specs.declared.aim.Aim.{Aim}
+use Rattle.list_changes.specs.declared.gap.Gap.{Gap}
+use Rattle.list_changes.specs.declared.layout.Layout.{Layout}
+use Rattle.list_changes.specs.declared.layout.Span.{Span}
 use Rattle.exchange_screens.specs.declared.piece.Piece.{Piece}
 use Rattle.exchange_screens.specs.declared.trial.Trial.{Trial}
-use Rattle.exchange_screens.specs.inside.Aims.{IsAim, IsNoAim, Names}
-use Rattle.exchange_screens.specs.inside.Gaps.{IsGap, gap_by}
-use Rattle.exchange_screens.specs.Layouts.{laid_out}
+use Rattle.list_changes.specs.Aims.{IsAim, IsNoAim, Names}
+use Rattle.list_changes.specs.Gaps.{IsGap, gap_by}
+use Rattle.list_changes.specs.Layouts.{laid_out}
 use Rattle.exchange_screens.specs.inside.Pieces.{IsPieceFrom}
 use Rattle.exchange_screens.specs.Trials.{IsAnswer, candidate_of}
 use Rattle.exchange_screens.proofs.Exchanged.{made-exchange}

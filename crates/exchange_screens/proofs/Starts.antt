@@ -7,7 +7,7 @@ use Rattle.search_model.proofs.PutMoves.{put-none}
 use Rattle.routing_model.specs.Routes.{list_at}
 use Rattle.move_core.specs.Searches.{IsSound, SearchState}
 use Rattle.exchange_screens.specs.declared.trial.Trial.{Trial}
-use Rattle.exchange_screens.specs.inside.Aims.{IsNoAim}
+use Rattle.list_changes.specs.Aims.{IsNoAim}
 use Rattle.exchange_screens.specs.Trials.{IsAnswer, NoStart, candidate_of}
 use Rattle.exchange_screens.proofs.PieceFacts.{no-position, no-run, stands}
 use Rattle.exchange_screens.proofs.PutLaws.{no-piece, nothing-made}

@@ -15,10 +15,10 @@ use Rattle.search_model.proofs.Pieces.{is_piece}
 use Rattle.search_model.proofs.RunMoves.{lawful-once, with_run, with_runs}
 use Rattle.gain_model.proofs.OperatorAnswers.{answer-none}
 use Rattle.move_core.specs.Searches.{IsSound, SearchState}
-use Rattle.exchange_screens.specs.declared.layout.Layout.{Layout}
+use Rattle.list_changes.specs.declared.layout.Layout.{Layout}
 use Rattle.exchange_screens.specs.declared.piece.Piece.{Piece}
 use Rattle.exchange_screens.specs.declared.trial.Trial.{Trial}
-use Rattle.exchange_screens.specs.Layouts.{laid_out}
+use Rattle.list_changes.specs.Layouts.{laid_out}
 use Rattle.exchange_screens.specs.inside.Pieces.{IsPieceFrom}
 use Rattle.exchange_screens.specs.Trials.{IsAnswer, candidate_of}
 use Rattle.exchange_screens.proofs.Exchanged.{made-exchange}

@@ -8,12 +8,13 @@ ghost use Rattle.search_model.specs.Edits.{piece};
 ghost use Rattle.move_core.specs.Looks.{AreHopeless};
 ghost use Rattle.exchange_screens.specs.Exchanges.{IsExchange};
 ghost use Rattle.exchange_screens.specs.Trials.{IsAnswer};
-ghost use Rattle.exchange_screens.specs.inside.Bounds.{IsPaid};
-ghost use Rattle.exchange_screens.specs.inside.Seats.{IsSeat, IsTaken, left_layout, place_in};
+ghost use Rattle.list_changes.specs.Bounds.{IsPaid};
+ghost use Rattle.exchange_screens.specs.inside.Seats.{IsSeat, IsTaken, place_in};
+ghost use Rattle.list_changes.specs.Layouts.{left_layout};
 
-use crate::gap::gap_of;
 use crate::lent::{Lent, is_lent_dear, is_put_dear};
 use crate::seat::{Seat, leg_to, paid_over, taken};
+use list_changes::gap_of;
 use move_core::Search;
 use problem_data::{Reads, Steps};
 

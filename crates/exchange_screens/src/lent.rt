@@ -4,18 +4,16 @@ ghost use Rattle.problem_data.specs.Limits.{largest};
 ghost use Rattle.problem_data.specs.Reads.{RoseAtMost};
 ghost use Rattle.routing_model.specs.Listed.{type_of_vehicle};
 ghost use Rattle.routing_model.specs.Routes.{list_at};
-ghost use Rattle.exchange_screens.specs.declared.change.Change.TheVariants.{Two};
-ghost use Rattle.exchange_screens.specs.Changes.{CostsNoLess, IsSide};
-ghost use Rattle.exchange_screens.specs.inside.Bounds.{IsLeast};
+ghost use Rattle.list_changes.specs.declared.change.Change.TheVariants.{Two};
+ghost use Rattle.list_changes.specs.Changes.{CostsNoLess, IsSide};
+ghost use Rattle.list_changes.specs.Bounds.{IsLeast};
 ghost use Rattle.exchange_screens.specs.inside.Lents.{IsLent, layout_of};
-ghost use Rattle.exchange_screens.specs.inside.Seats.{IsSeat, left_layout};
-ghost use Rattle.exchange_screens.specs.inside.Ways.{way_by};
+ghost use Rattle.exchange_screens.specs.inside.Seats.{IsSeat};
+ghost use Rattle.list_changes.specs.Layouts.{left_layout};
+ghost use Rattle.list_changes.specs.Ways.{way_by};
 
-use crate::bound::{capped, is_empty, load_cost};
-use crate::gap::Gap;
-use crate::layout::{Layout, NOTHING, Span};
 use crate::seat::{Seat, paid_over};
-use crate::way::{leg_over, way_lent};
+use list_changes::{Gap, Layout, NOTHING, Span, capped, is_empty, leg_over, load_cost, way_lent};
 use move_core::Search;
 use problem_data::{Reads, Steps};
 

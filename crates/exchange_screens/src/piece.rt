@@ -5,7 +5,7 @@ ghost use Rattle.problem_data.specs.Places.{vehicle_count};
 ghost use Rattle.search_model.specs.Edits.{piece};
 ghost use Rattle.exchange_screens.specs.inside.Pieces.{IsPieceFrom};
 
-use crate::layout::Span;
+use list_changes::Span;
 use move_core::Search;
 
 /// Some clients of a vehicle's list: the visits from one position, from 0, up to another.

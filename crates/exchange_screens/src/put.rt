@@ -1,17 +1,13 @@
 //! Exchanges with no other piece: a piece goes to a target.
 ghost use Rattle.std.specs.Prelude.{◌≡◌, ◌≢◌, ◌≤◌, ◌<◌, None};
 ghost use Rattle.std.specs.Option.{MatchOption};
-ghost use Rattle.exchange_screens.specs.inside.Aims.{IsAim};
-ghost use Rattle.exchange_screens.specs.Changes.{IsChange};
+ghost use Rattle.list_changes.specs.Aims.{IsAim};
 ghost use Rattle.exchange_screens.specs.inside.Pieces.{IsPieceFrom};
-ghost use Rattle.exchange_screens.specs.Trials.{IsAnswer};
+ghost use Rattle.exchange_screens.specs.Trials.{IsAnswer, IsChange};
 
-use crate::aim::{Aim, aim_of};
-use crate::change::Change;
-use crate::gap::gap_of;
-use crate::layout::{Layout, NOTHING, Span};
 use crate::piece::{Piece, piece_from};
 use crate::trial::Trial;
+use list_changes::{Aim, Change, Layout, NOTHING, Span, aim_of, gap_of};
 use move_core::Search;
 
 /// What a trial with no other piece changes. None where it doesn't apply, or changes nothing.

@@ -5,13 +5,12 @@ ghost use Rattle.problem_data.specs.Places.{leg_distance};
 ghost use Rattle.problem_data.specs.Reads.{RoseAtMost};
 ghost use Rattle.routing_model.specs.Routes.{list_at};
 ghost use Rattle.search_model.specs.Edits.{piece};
-ghost use Rattle.exchange_screens.specs.inside.Bounds.{IsPaid};
+ghost use Rattle.list_changes.specs.Bounds.{IsPaid};
 ghost use Rattle.exchange_screens.specs.inside.Pieces.{IsPieceFrom};
-ghost use Rattle.exchange_screens.specs.inside.Seats.{IsSeat, IsTaken, left_layout, piece_at, place_in};
+ghost use Rattle.exchange_screens.specs.inside.Seats.{IsSeat, IsTaken, piece_at, place_in};
+ghost use Rattle.list_changes.specs.Layouts.{left_layout};
 
-use crate::bound::CUT;
-use crate::layout::{Layout, NOTHING};
-use crate::way::{place_at, way_gone};
+use list_changes::{CUT, Layout, NOTHING, place_at, way_gone};
 use move_core::Search;
 use problem_data::{Reads, Steps, leg};
 

@@ -1,13 +1,11 @@
 //! Exchanges of two pieces.
 ghost use Rattle.std.specs.Prelude.{◌≡◌, ◌≢◌, ◌≤◌, None};
 ghost use Rattle.std.specs.Option.{MatchOption};
-ghost use Rattle.exchange_screens.specs.Changes.{IsChange};
-ghost use Rattle.exchange_screens.specs.Trials.{IsAnswer};
+ghost use Rattle.exchange_screens.specs.Trials.{IsAnswer, IsChange};
 
-use crate::change::Change;
-use crate::layout::{Layout, NOTHING, Span};
 use crate::piece::{Piece, piece_from};
 use crate::trial::Trial;
+use list_changes::{Change, Layout, NOTHING, Span};
 use move_core::{Search, Target};
 
 /// What a trial with another piece changes. None where it doesn't apply.

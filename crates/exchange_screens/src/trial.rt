@@ -2,12 +2,11 @@
 ghost use Rattle.std.specs.Prelude.{None};
 ghost use Rattle.std.specs.Option.{MatchOption};
 ghost use Rattle.exchange_screens.specs.Exchanges.{IsExchange};
-ghost use Rattle.exchange_screens.specs.Changes.{IsChange};
-ghost use Rattle.exchange_screens.specs.Trials.{IsAnswer};
+ghost use Rattle.exchange_screens.specs.Trials.{IsAnswer, IsChange};
 
-use crate::change::Change;
 use crate::put::put;
 use crate::swap::swap;
+use list_changes::Change;
 use move_core::{Search, Target};
 
 /// A candidate of an exchange of n and m: the piece of n from the client goes to the target, or changes places with the piece of m from

@@ -6,9 +6,8 @@ ghost use Rattle.move_core.specs.Looks.{AreHopeless};
 ghost use Rattle.exchange_screens.specs.Exchanges.{IsExchange};
 ghost use Rattle.exchange_screens.specs.Trials.{IsAnswer};
 
-use crate::change::Change;
-use crate::screen::is_one_dear;
 use crate::trial::{Trial, change_of};
+use list_changes::{Change, is_one_dear};
 use move_core::{Search, Target};
 use problem_data::{Reads, Steps};
 

@@ -1,3 +1,1 @@
-pub mod Improving
-pub mod NewViews
-pub mod TrialAnswers
+pub mod FewReads

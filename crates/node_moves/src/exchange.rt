@@ -6,8 +6,8 @@ ghost use Rattle.exchange_screens.specs.Exchanges.{IsExchange, exchange_kind};
 ghost use Rattle.exchange_screens.specs.Trials.{IsAnswer};
 ghost use Rattle.node_moves.specs.Exchanges.{answer_reads};
 
-use crate::improved::improved;
-use exchange_screens::{Trial, change_of, is_dear};
+use exchange_screens::{Trial, change_of};
+use list_changes::{improving_gain, is_dear};
 use move_core::{Candidate, Gain, Kind, Operator, Search, Tally, Target};
 use problem_data::{NoMemory, Reads, Steps};
 use std::marker::Model;
@@ -98,7 +98,7 @@ fn answer(search: &Search<'_>, trial: Trial, reads: &mut Steps<Reads>) -> Option
     if is_dear(search, change, reads) {
         return None;
     }
-    improved(search, change, reads)
+    improving_gain(search, change, reads)
 }
 
 impl Operator for Exchange {

@@ -1,8 +1,6 @@
-//! Moves of clients from route to route: the exchanges of pieces, by views of the routes.
+//! Moves of clients from route to route: the exchanges of pieces.
 #![tactic(auto)]
 
 mod exchange;
-mod improved;
-mod laying;
 
 pub use exchange::Exchange;

@@ -1,5 +1,5 @@
 -- The places along a list, and where its runs are left and reached.
-use Rattle.std.proofs.Common.{◌≡◌, ℕ, zero, suc, ◌+◌, ◌<◌, ◌≤◌, Bool, true, false, List, [], ◌∷◌, length, get_or, refl, ◌∙◌, ap, sym, subst, arith, add-one, slice_range, ◌⊎◌, inl, inr}
+use Rattle.std.proofs.Common.{◌≡◌, ℕ, zero, suc, ◌+◌, ◌<◌, ◌≤◌, Bool, true, false, List, length, get_or, refl, ◌∙◌, ap, sym, subst, arith, add-one, ◌⊎◌, inl, inr}
 use Rattle.std.proofs.lemmas.Option.{slice_get-get_or, slice_get_past}
 use Rattle.problem_data.specs.declared.problem.Problem.{Problem}
 use Rattle.problem_data.specs.declared.problem.VehicleType.{VehicleType}
@@ -11,11 +11,11 @@ use Rattle.problem_data.specs.Visits.{place_of}
 use Rattle.routing_model.specs.Listed.{IsListed}
 use Rattle.trips.specs.declared.run_segment.RunSegment.{RunSegment}
 use Rattle.trips.specs.RunSegments.{CanMergeRunSegments, FitTogether, HoldsRun, HoldsVisit, JoinsRunSegments, Leaves, Reaches, end_alone, run_before, run_from}
-use Rattle.trips.specs.Runs.{Run, whole}
+use Rattle.trips.specs.Runs.{whole}
 use Rattle.trips.proofs.RunJoins.{fit-can, joined-at}
 use Rattle.trips.proofs.RunPlaces.{leaves-start, reaches-end}
 use Rattle.trips.proofs.RunSteps.{fit-longer, fit-more, holds-longer, holds-more, leaves-more, named-at, place-named, reaches-before, run-whole, whole-joined}
-use Rattle.route_cache.specs.inside.Tables.{GoesOn, IsBegun, run_up_to}
+use Rattle.route_cache.specs.inside.Tables.{IsBegun, run_up_to}
 use Rattle.route_cache.specs.Marks.{place_along, place_or}
 use Rattle.route_cache.proofs.Slices.{slice-none}
 

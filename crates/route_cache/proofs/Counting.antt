@@ -1,9 +1,7 @@
 -- How many reloads and how large sums the parts of a list have.
-use Rattle.std.proofs.Common.{◌≡◌, ℕ, ◌+◌, ◌-◌, ◌*◌, ◌<◌, ◌≤◌, List, [], ◌∷◌, ◌++◌, length, get_or, refl, ◌∙◌, ap, sym, subst, arith, sum_by, slice_range, length-take, length-drop, if◌then◌else◌}
-use Rattle.std.specs.Prelude.{count_by, not}
-use Rattle.std.proofs.lemmas.List.{append-nil}
+use Rattle.std.proofs.Common.{◌≡◌, ℕ, ◌+◌, ◌-◌, ◌*◌, ◌<◌, ◌≤◌, List, [], ◌∷◌, ◌++◌, length, get_or, refl, ◌∙◌, ap, arith, sum_by, slice_range, length-take, length-drop, if◌then◌else◌}
+use Rattle.std.specs.Prelude.{not}
 use Rattle.std.proofs.lemmas.List.Sums.{count_by-le-length, sum_by-append, sum_by-cons}
-use Rattle.problem_data.specs.declared.problem.Problem.{Problem}
 use Rattle.problem_data.specs.declared.visit.Visit.{Visit}
 use Rattle.problem_data.specs.declared.visit.Visit.TheVariants.{Client, Reload}
 use Rattle.problem_data.specs.Limits.{largest}

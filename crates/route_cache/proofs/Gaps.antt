@@ -1,6 +1,6 @@
 -- What is left of a list where visits are taken out, so that it is tidy: its first visits up to a position and its last ones from
 -- another position on, which the visits beside the gap tell.
-use Rattle.std.proofs.Common.{◌≡◌, ℕ, zero, suc, ◌+◌, ◌-◌, ◌<◌, ◌≤◌, ◌⊎◌, Bool, true, false, ◌&&◌, cond, not, List, [], ◌∷◌, ◌++◌, length, get_or, take, drop, refl, sym, ◌∙◌, ap, ap₂, subst, inl, inr, arith, add-one, append_assoc, Option, Some, None, slice_get, slice_range}
+use Rattle.std.proofs.Common.{◌≡◌, ℕ, zero, suc, ◌+◌, ◌-◌, ◌<◌, ◌≤◌, ◌⊎◌, Bool, true, false, ◌&&◌, List, [], ◌∷◌, ◌++◌, length, get_or, take, drop, refl, sym, ◌∙◌, ap, ap₂, inl, inr, arith, add-one, append_assoc, Option, None, slice_get, slice_range}
 use Rattle.std.specs.Prelude.{if◌then◌else◌}
 use Rattle.std.proofs.lemmas.Option.{slice_get-get_or, slice_get_past}
 use Rattle.problem_data.specs.declared.visit.Visit.{Visit}
@@ -8,10 +8,10 @@ use Rattle.problem_data.specs.declared.visit.Visit.TheVariants.{Client}
 use Rattle.routing_model.proofs.TidyJoints.{but_last, but_last-added, joined}
 use Rattle.trips.specs.declared.joint.Joint.{Joint}
 use Rattle.trips.specs.declared.joint.Joint.TheVariants.{Keep, DropLeft, DropRight}
-use Rattle.trips.specs.Joints.{first_visit, is_some_client, is_some_reload, is_nothing, joined_by, joint_of, last_visit}
+use Rattle.trips.specs.Joints.{first_visit, is_some_reload, joined_by, joint_of, last_visit}
 use Rattle.trips.proofs.JoinedLists.{but_last-take, joined-by}
 use Rattle.route_cache.specs.Gaps.{visit_before}
-use Rattle.route_cache.proofs.Slices.{slice-before, slice-more, slice-none, slice-split}
+use Rattle.route_cache.proofs.Slices.{slice-before, slice-more, slice-none}
 
 -- where the first visits end and the last ones begin, by the joint
 abbrev pub left_by : Joint → ℕ → ℕ

@@ -1,5 +1,5 @@
 -- The lists of a lawful plan have no more visits than a vehicle can have.
-use Rattle.std.proofs.Common.{◌≡◌, ℕ, zero, suc, ◌+◌, ◌*◌, ◌<◌, ◌≤◌, ◌&&◌, Bool, true, false, cond, List, [], ◌∷◌, length, get_or, refl, ◌∙◌, ap, sym, subst, arith}
+use Rattle.std.proofs.Common.{◌≡◌, ℕ, zero, suc, ◌+◌, ◌*◌, ◌<◌, ◌≤◌, ◌&&◌, Bool, true, false, cond, List, [], ◌∷◌, length, get_or, refl, ap, subst, arith}
 use Rattle.std.specs.Prelude.{◌==◌, All, IsTrue, count_by, nat_le, sum_by, zip}
 use Rattle.std.specs.List.{list_all, range_with_len}
 use Rattle.std.proofs.lemmas.Bool.Decides.{nat_tests}
@@ -11,8 +11,8 @@ use Rattle.problem_data.specs.declared.problem.Problem.{Problem}
 use Rattle.problem_data.specs.declared.problem.VehicleType.{VehicleType}
 use Rattle.problem_data.specs.declared.visit.Visit.{Visit}
 use Rattle.problem_data.specs.declared.visit.Visit.TheVariants.{Client, Reload}
-use Rattle.problem_data.specs.Limits.{most_places, most_reloads, most_visits}
-use Rattle.problem_data.specs.Places.{client_places, fleet, is_client_place, place_count, type_at, types_of_vehicles, vehicle_count}
+use Rattle.problem_data.specs.Limits.{most_places, most_reloads}
+use Rattle.problem_data.specs.Places.{client_places, fleet, is_client_place, place_count, type_at, types_of_vehicles}
 use Rattle.problem_data.specs.Valid.{IsValid, IsValidType}
 use Rattle.routing_model.specs.Lawful.{IsLawful, is_allowed, is_lawful, names_place, reloads_as_allowed, visits_at_most_once}
 use Rattle.routing_model.specs.Listed.{IsListed}
@@ -20,7 +20,6 @@ use Rattle.routing_model.specs.Routes.{Routes, is_visit_of, visit_count}
 use Rattle.routing_model.specs.Tidy.{is_tidy}
 use Rattle.routing_model.proofs.LawfulFacts.{lawful-facts}
 use Rattle.trips.proofs.Quantities.{at_each}
-use Rattle.route_cache.specs.inside.Shapes.{reload_of}
 use Rattle.route_cache.specs.Marks.{reloads_in}
 use Rattle.route_cache.proofs.Counting.{reloads-cons}
 use Rattle.std.proofs.lemmas.List.{get_or-map, length-map}

@@ -1,22 +1,13 @@
 -- Views of one visit.
-use Rattle.std.proofs.Common.{◌≡◌, ℕ, ◌+◌, ◌*◌, ◌<◌, ◌≤◌, false, List, [], ◌∷◌, length, get_or, ◌∙◌, ap, sym, subst, arith, slice_range, Option, Some, None}
-use Rattle.std.specs.Prelude.{IsTrue}
-use Rattle.std.proofs.lemmas.List.Elements.{All-get_or}
+use Rattle.std.proofs.Common.{◌≡◌, ℕ, ◌*◌, ◌<◌, ◌≤◌, [], ◌∷◌, length, get_or, ◌∙◌, ap, sym, subst, arith, slice_range, Option, Some, None}
 use Rattle.problem_data.specs.declared.problem.VehicleType.{VehicleType}
-use Rattle.problem_data.specs.declared.visit.Visit.{Visit}
 use Rattle.problem_data.specs.declared.visit.Visit.TheVariants.{Client}
 use Rattle.problem_data.specs.Limits.{largest}
-use Rattle.problem_data.specs.Places.{client_at, leg_distance}
-use Rattle.problem_data.specs.Valid.{IsValid, IsValidType}
-use Rattle.routing_model.specs.Cost.{length_of}
-use Rattle.routing_model.specs.Lawful.{names_place}
+use Rattle.problem_data.specs.Places.{client_at}
 use Rattle.segments.specs.Totals.{largest_total}
 use Rattle.trips.specs.declared.run_segment.RunSegment.{RunSegment}
 use Rattle.trips.specs.RunSegments.{HoldsRun, HoldsVisit, alone, prizes_of}
-use Rattle.trips.specs.Runs.{Run, run_stops}
-use Rattle.trips.specs.Standing.{StandsForRun}
 use Rattle.trips.proofs.Quantities.{valid_client_at}
-use Rattle.trips.proofs.RunCounts.{all-named}
 use Rattle.route_cache.specs.inside.Lookups.{IsAlone, IsLone, IsView}
 use Rattle.route_cache.specs.Routes.{IsTypeFor, RouteState, ViewState, lent, run_of}
 use Rattle.route_cache.proofs.Counting.{amounts-bound}

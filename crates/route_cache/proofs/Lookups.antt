@@ -1,15 +1,14 @@
 -- What is looked up in a route.
-use Rattle.std.proofs.Common.{◌≡◌, ℕ, ◌+◌, ◌-◌, ◌<◌, ◌≤◌, Bool, true, false, List, [], ◌∷◌, length, get_or, refl, ◌∙◌, ap, sym, subst, arith, slice_range}
+use Rattle.std.proofs.Common.{◌≡◌, ℕ, ◌+◌, ◌-◌, ◌<◌, ◌≤◌, true, false, List, length, get_or, ◌∙◌, ap, sym, subst, arith, slice_range}
 use Rattle.problem_data.specs.declared.problem.Problem.{Problem}
 use Rattle.problem_data.specs.declared.problem.VehicleType.{VehicleType}
 use Rattle.problem_data.specs.declared.visit.Visit.{Visit}
 use Rattle.trips.specs.declared.piece.Piece.{Piece}
 use Rattle.trips.specs.declared.trip_segment.TripSegment.{TripSegment}
-use Rattle.trips.specs.RunSegments.{HoldsRun, run_before, run_from}
+use Rattle.trips.specs.RunSegments.{run_before, run_from}
 use Rattle.route_cache.specs.declared.kept.Kept.{Kept}
 use Rattle.route_cache.specs.declared.mark.Mark.{Mark}
 use Rattle.route_cache.specs.inside.Kept.{IsKept}
-use Rattle.route_cache.specs.inside.Lookups.{IsPart}
 use Rattle.route_cache.specs.inside.Shapes.{back, front, shaped}
 use Rattle.route_cache.specs.inside.Tables.{IsBegun, TripsHold, reloads_of_side, run_of_side}
 use Rattle.route_cache.specs.Marks.{reloads_in}

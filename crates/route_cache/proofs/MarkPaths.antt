@@ -1,19 +1,18 @@
 -- The distance of a list in which a run is replaced, and the sums of its clients, from the marks of the lists that its parts are
 -- taken from.
-use Rattle.std.proofs.Common.{◌≡◌, ℕ, zero, suc, ◌+◌, ◌-◌, ◌*◌, ◌<◌, ◌≤◌, Bool, true, List, [], ◌∷◌, ◌++◌, length, get_or, refl, sym, ◌∙◌, ap, subst, arith, add-one, slice_range, sum_by, ℤ, pos, ◌-ℤ◌, ◌+ℤ◌, ◌⊎◌, inl, inr}
+use Rattle.std.proofs.Common.{◌≡◌, ℕ, zero, suc, ◌+◌, ◌<◌, ◌≤◌, Bool, true, List, [], ◌∷◌, ◌++◌, length, get_or, refl, sym, ◌∙◌, ap, arith, add-one, slice_range, sum_by, ℤ, pos, ◌-ℤ◌, ◌+ℤ◌, ◌⊎◌, inl, inr}
 use Rattle.std.proofs.lemmas.Int.{ints}
 use Rattle.problem_data.specs.declared.problem.Problem.{Problem}
 use Rattle.problem_data.specs.declared.problem.VehicleType.{VehicleType}
 use Rattle.problem_data.specs.declared.visit.Visit.{Visit}
 use Rattle.problem_data.specs.declared.visit.Visit.TheVariants.{Client}
 use Rattle.problem_data.specs.Places.{client_at, leg_distance}
-use Rattle.problem_data.specs.Visits.{place_of}
 use Rattle.routing_model.specs.Cost.{distance, length_of}
 use Rattle.routing_model.specs.Routes.{clients_of}
 use Rattle.routing_model.proofs.Paths.{distance-replaced, path, path-append, path_end, path_end-append, path_start, stops-path, through}
 use Rattle.trips.specs.Runs.{run_stops, start_stop}
 use Rattle.route_cache.specs.declared.mark.Mark.{Mark}
-use Rattle.route_cache.specs.Marks.{AreMarks, IsMark, deliveries_of, leg_to, pickups_of, place_along, reloads_in, run_to}
+use Rattle.route_cache.specs.Marks.{AreMarks, IsMark, deliveries_of, leg_to, pickups_of, place_along, reloads_in}
 use Rattle.route_cache.proofs.Alongs.{along-end, along-visit}
 use Rattle.route_cache.proofs.Counting.{amounts-append, amounts-split, reloads-append, reloads-split}
 use Rattle.route_cache.proofs.MarkFacts.{not-ended}

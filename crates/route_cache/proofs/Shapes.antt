@@ -1,5 +1,5 @@
 -- What a visit more makes of a trip segment.
-use Rattle.std.proofs.Common.{◌≡◌, ℕ, zero, suc, ◌+◌, ◌<◌, ◌≤◌, List, [], ◌∷◌, ◌++◌, length, get_or, refl, ◌∙◌, ap, sym, subst, arith}
+use Rattle.std.proofs.Common.{◌≡◌, ℕ, zero, suc, ◌<◌, ◌≤◌, List, [], ◌∷◌, ◌++◌, length, get_or, refl, sym, subst, arith}
 use Rattle.std.specs.Prelude.{ℤ}
 use Rattle.std.proofs.lemmas.List.{get_or_append_left, get_or_push}
 use Rattle.problem_data.specs.declared.problem.Problem.{Problem}
@@ -14,7 +14,7 @@ use Rattle.trips.specs.Merging.{merged_trips}
 use Rattle.trips.specs.RunSegments.{alone, end_alone, start_alone}
 use Rattle.trips.specs.Runs.{Stretch}
 use Rattle.trips.specs.Standing.{StandsForRun}
-use Rattle.route_cache.specs.inside.Shapes.{Grows, Side, back, front, inner_of, middle_of, no_trip, outer_of, outer_or, shaped, split_at, tail_of, head_of, with_inner}
+use Rattle.route_cache.specs.inside.Shapes.{Grows, Side, back, front, no_trip, outer_of, outer_or, shaped, split_at, tail_of, head_of, with_inner}
 
 one-not_more : (x first last : Stretch) (between : List Stretch) → x ∷ [] ≡ first ∷ (between ++ last ∷ []) → ⊥
 one-not_more x first last [] h = cc

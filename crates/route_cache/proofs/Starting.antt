@@ -1,16 +1,15 @@
 -- The passes at their first step.
-use Rattle.std.proofs.Common.{◌≡◌, ℕ, ◌-◌, List, [], ◌∷◌, length, refl, ◌∙◌, ap, sym, subst, arith, true, false}
+use Rattle.std.proofs.Common.{◌≡◌, ◌-◌, List, [], ◌∷◌, length, ◌∙◌, ap, sym, subst, arith, true, false}
 use Rattle.problem_data.specs.declared.problem.Problem.{Problem}
 use Rattle.problem_data.specs.declared.problem.VehicleType.{VehicleType}
 use Rattle.problem_data.specs.declared.visit.Visit.{Visit}
 use Rattle.trips.specs.RunSegments.{HoldsRun, end_alone, run_from, start_alone}
-use Rattle.trips.specs.Runs.{Run}
 use Rattle.route_cache.specs.declared.mark.Mark.{Mark}
 use Rattle.route_cache.specs.declared.forward.Forward.{Forward}
 use Rattle.route_cache.specs.declared.backward.Backward.{Backward}
 use Rattle.route_cache.specs.inside.Passes.{IsBackward, IsForward}
 use Rattle.route_cache.specs.inside.Shapes.{back, front, head_of, no_trip, tail_of}
-use Rattle.route_cache.specs.inside.Tables.{TripsHold, run_of_side}
+use Rattle.route_cache.specs.inside.Tables.{run_of_side}
 use Rattle.route_cache.specs.Marks.{IsMark}
 use Rattle.route_cache.proofs.MarkFacts.{marked-start}
 use Rattle.route_cache.proofs.Shapes.{open-end, open-start}

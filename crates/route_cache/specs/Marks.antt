@@ -1,10 +1,10 @@
 -- What a route's marks say. A mark stands at each position: 0 is the start, i the i-th visit, and the last one the end.
-use Rattle.std.specs.Prelude.{◌≡◌, ℕ, zero, suc, ◌+◌, ◌*◌, ◌≤◌, ℤ, pos, true, Option, Some, None, List, length, slice_range, slice_get, slice_index_or, nat_lt, not, count_by, sum_by, if◌then◌else◌}
+use Rattle.std.specs.Prelude.{◌≡◌, ℕ, zero, suc, ◌+◌, ◌≤◌, pos, true, Option, Some, None, List, length, slice_range, slice_get, slice_index_or, nat_lt, not, count_by, sum_by, if◌then◌else◌}
 use Rattle.problem_data.specs.declared.problem.Problem.{Problem}
 use Rattle.problem_data.specs.declared.problem.VehicleType.{VehicleType}
 use Rattle.problem_data.specs.declared.visit.Visit.{Visit}
 use Rattle.problem_data.specs.Limits.{largest_leg, most_visits}
-use Rattle.problem_data.specs.Places.{client_at, leg_distance, leg_duration}
+use Rattle.problem_data.specs.Places.{client_at, leg_distance}
 use Rattle.problem_data.specs.Visits.{is_client, place_of}
 use Rattle.routing_model.specs.Cost.{length_of}
 use Rattle.routing_model.specs.Routes.{clients_of}

@@ -1,5 +1,5 @@
 //! The pass over a list from its end to its first visit. It reads no leg.
-ghost use Rattle.std.specs.Prelude.{◌≡◌, ◌+◌, ◌-◌, ◌<◌, IfOk, OnOk, length};
+ghost use Rattle.std.specs.Prelude.{◌≡◌, ◌+◌, ◌-◌, ◌<◌, IfOk, OnOk, length, slice_index_or};
 ghost use Rattle.problem_data.specs.Places.{leg_distance, leg_duration};
 ghost use Rattle.problem_data.specs.Valid.{IsValid, IsValidType};
 ghost use Rattle.routing_model.specs.Listed.{IsListed};
@@ -11,7 +11,7 @@ use crate::mark::Mark;
 use crate::piece_table::{PieceTable, head_of, middle_of, tail_of};
 use problem_data::{Leg, NoMemory, ProblemData, VehicleType, Visit};
 use std::alloc::Global;
-use trips::RunSegment;
+use trips::{RunSegment, TripSegment};
 
 /// What the pass has made, down to some position.
 #[derive(Drop)]
@@ -41,6 +41,7 @@ impl Backward {
     }
 
     /// One visit more, behind which the pass has been, over this leg.
+    #[inline(always)]
     fn step(
         &mut self,
         given: &ProblemData,
@@ -58,10 +59,79 @@ impl Backward {
         requires duration { leg.duration ≡ leg_duration given.now vehicle_type.now.profile (place_along vehicle_type.now visits.now (at + 1)) (place_along vehicle_type.now visits.now (at + 2)) }
         ensures { OnOk result (IsBackward given.now vehicle_type.now visits.now (length visits.now - at) self.new) }
     {
-        self.so_far = grown_before(self.so_far, given, vehicle_type, visits, at, leg);
-        let trips = self.so_far.trips;
-        self.table.push(visits[at], head_of(trips), middle_of(trips), tail_of(trips))?;
+        match (self.so_far.trips, visits[at]) {
+            (TripSegment::Open(piece), Visit::Client(place)) => {
+                let so_far = RunSegment {
+                    trips: TripSegment::Open(piece),
+                    distance: self.so_far.distance,
+                    prizes: self.so_far.prizes,
+                };
+                let visit = Visit::Client(place);
+                self.add(so_far, visit, given, vehicle_type, visits, at, leg)
+            }
+            _ => self.add_any(given, vehicle_type, visits, at, leg),
+        }
+    }
+
+    /// The visit before all so far, over this leg.
+    #[inline(always)]
+    fn add(
+        &mut self,
+        so_far: RunSegment,
+        visit: Visit,
+        given: &ProblemData,
+        vehicle_type: &VehicleType,
+        visits: &[Visit],
+        at: usize,
+        leg: Leg,
+    ) -> Result<(), NoMemory>
+        requires valid { IsValid given.now }
+        requires vehicle_type { IsValidType given.now vehicle_type.now }
+        requires listed { IsListed given.now visits.now }
+        requires in_list { at < length visits.now }
+        requires backward { IsBackward given.now vehicle_type.now visits.now (length visits.now - 1 - at) self.old }
+        requires so_far { so_far ≡ self.old.so_far }
+        requires visit { visit ≡ slice_index_or visits.now at (Visit.Client 0) }
+        requires distance { leg.distance ≡ leg_distance given.now vehicle_type.now.profile (place_along vehicle_type.now visits.now (at + 1)) (place_along vehicle_type.now visits.now (at + 2)) }
+        requires duration { leg.duration ≡ leg_duration given.now vehicle_type.now.profile (place_along vehicle_type.now visits.now (at + 1)) (place_along vehicle_type.now visits.now (at + 2)) }
+        ensures { OnOk result (IsBackward given.now vehicle_type.now visits.now (length visits.now - at) self.new) }
+    {
+        let now = grown_before(so_far, visit, given, vehicle_type, visits, at, leg);
+        let trips = now.trips;
+        self.table
+            .push(visit, head_of(trips), middle_of(trips), tail_of(trips))?;
+        self.so_far = now;
         Ok(())
+    }
+
+    /// The same for any visit and any reloads so far. A client of the last trip changes few numbers, and is told apart.
+    #[inline(never)]
+    fn add_any(
+        &mut self,
+        given: &ProblemData,
+        vehicle_type: &VehicleType,
+        visits: &[Visit],
+        at: usize,
+        leg: Leg,
+    ) -> Result<(), NoMemory>
+        requires valid { IsValid given.now }
+        requires vehicle_type { IsValidType given.now vehicle_type.now }
+        requires listed { IsListed given.now visits.now }
+        requires in_list { at < length visits.now }
+        requires backward { IsBackward given.now vehicle_type.now visits.now (length visits.now - 1 - at) self.old }
+        requires distance { leg.distance ≡ leg_distance given.now vehicle_type.now.profile (place_along vehicle_type.now visits.now (at + 1)) (place_along vehicle_type.now visits.now (at + 2)) }
+        requires duration { leg.duration ≡ leg_duration given.now vehicle_type.now.profile (place_along vehicle_type.now visits.now (at + 1)) (place_along vehicle_type.now visits.now (at + 2)) }
+        ensures { OnOk result (IsBackward given.now vehicle_type.now visits.now (length visits.now - at) self.new) }
+    {
+        self.add(
+            self.so_far,
+            visits[at],
+            given,
+            vehicle_type,
+            visits,
+            at,
+            leg,
+        )
     }
 }
 

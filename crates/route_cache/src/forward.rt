@@ -1,5 +1,5 @@
 //! The pass over a list from its start to its end.
-ghost use Rattle.std.specs.Prelude.{◌≡◌, ◌+◌, ◌*◌, ◌<◌, IfOk, OnOk, length};
+ghost use Rattle.std.specs.Prelude.{◌≡◌, ◌+◌, ◌*◌, ◌<◌, IfOk, OnOk, length, slice_index_or};
 ghost use Rattle.problem_data.specs.Places.{leg_distance, leg_duration};
 ghost use Rattle.problem_data.specs.Reads.{RoseAtMost};
 ghost use Rattle.problem_data.specs.Valid.{IsValid, IsValidType};
@@ -14,7 +14,7 @@ use crate::mark::{Mark, place_along};
 use crate::piece_table::{PieceTable, head_of, middle_of, tail_of};
 use problem_data::{Leg, NoMemory, ProblemData, Reads, Steps, VehicleType, Visit, leg};
 use std::alloc::Global;
-use trips::{RunSegment, WholeRoute};
+use trips::{RunSegment, TripSegment, WholeRoute};
 
 /// What the pass has made, up to some position.
 #[derive(Drop)]
@@ -58,6 +58,7 @@ impl Forward {
     }
 
     /// One visit more: the leg to it and the one past it are read.
+    #[inline(always)]
     fn step(
         &mut self,
         given: &ProblemData,
@@ -74,24 +75,90 @@ impl Forward {
         ensures forward { OnOk result (IsForward given.now vehicle_type.now visits.now (k + 1) self.new) }
         ensures reads { RoseAtMost 2 reads.old reads.new }
     {
-        let last = self.marks[k];
         let to = leg_along(given, vehicle_type, visits, k, k + 1, reads);
         let over = leg_along(given, vehicle_type, visits, k, k + 2, reads).distance;
-        self.so_far = grown_behind(self.so_far, given, vehicle_type, visits, k, to);
-        let here = last.at_visit(
+        match (self.so_far.trips, visits[k]) {
+            (TripSegment::Open(piece), Visit::Client(place)) => {
+                let so_far = RunSegment {
+                    trips: TripSegment::Open(piece),
+                    distance: self.so_far.distance,
+                    prizes: self.so_far.prizes,
+                };
+                let visit = Visit::Client(place);
+                self.add(so_far, visit, given, vehicle_type, visits, k, to, over)
+            }
+            _ => self.add_any(given, vehicle_type, visits, k, to, over),
+        }
+    }
+
+    /// The visit behind all so far, over these legs.
+    #[inline(always)]
+    fn add(
+        &mut self,
+        so_far: RunSegment,
+        visit: Visit,
+        given: &ProblemData,
+        vehicle_type: &VehicleType,
+        visits: &[Visit],
+        k: usize,
+        to: Leg,
+        over: u32,
+    ) -> Result<(), NoMemory>
+        requires valid { IsValid given.now }
+        requires vehicle_type { IsValidType given.now vehicle_type.now }
+        requires listed { IsListed given.now visits.now }
+        requires in_list { k < length visits.now }
+        requires forward { IsForward given.now vehicle_type.now visits.now k self.old }
+        requires so_far { so_far ≡ self.old.so_far }
+        requires visit { visit ≡ slice_index_or visits.now k (Visit.Client 0) }
+        requires distance { to.distance ≡ leg_distance given.now vehicle_type.now.profile (place_along vehicle_type.now visits.now k) (place_along vehicle_type.now visits.now (k + 1)) }
+        requires duration { to.duration ≡ leg_duration given.now vehicle_type.now.profile (place_along vehicle_type.now visits.now k) (place_along vehicle_type.now visits.now (k + 1)) }
+        requires over { over ≡ leg_distance given.now vehicle_type.now.profile (place_along vehicle_type.now visits.now k) (place_along vehicle_type.now visits.now (k + 2)) }
+        ensures { OnOk result (IsForward given.now vehicle_type.now visits.now (k + 1) self.new) }
+    {
+        let last = self.marks[k];
+        let now = grown_behind(so_far, visit, given, vehicle_type, visits, k, to);
+        let here = last.at_visit(given, vehicle_type, visits, k, now, to.distance, over);
+        let trips = now.trips;
+        self.table
+            .push(visit, tail_of(trips), middle_of(trips), head_of(trips))?;
+        self.marks.push(here)?;
+        self.durations.push(to.duration)?;
+        self.so_far = now;
+        Ok(())
+    }
+
+    /// The same for any visit and any reloads so far. A client of the first trip changes few numbers, and is told apart.
+    #[inline(never)]
+    fn add_any(
+        &mut self,
+        given: &ProblemData,
+        vehicle_type: &VehicleType,
+        visits: &[Visit],
+        k: usize,
+        to: Leg,
+        over: u32,
+    ) -> Result<(), NoMemory>
+        requires valid { IsValid given.now }
+        requires vehicle_type { IsValidType given.now vehicle_type.now }
+        requires listed { IsListed given.now visits.now }
+        requires in_list { k < length visits.now }
+        requires forward { IsForward given.now vehicle_type.now visits.now k self.old }
+        requires distance { to.distance ≡ leg_distance given.now vehicle_type.now.profile (place_along vehicle_type.now visits.now k) (place_along vehicle_type.now visits.now (k + 1)) }
+        requires duration { to.duration ≡ leg_duration given.now vehicle_type.now.profile (place_along vehicle_type.now visits.now k) (place_along vehicle_type.now visits.now (k + 1)) }
+        requires over { over ≡ leg_distance given.now vehicle_type.now.profile (place_along vehicle_type.now visits.now k) (place_along vehicle_type.now visits.now (k + 2)) }
+        ensures { OnOk result (IsForward given.now vehicle_type.now visits.now (k + 1) self.new) }
+    {
+        self.add(
+            self.so_far,
+            visits[k],
             given,
             vehicle_type,
             visits,
             k,
-            self.so_far,
-            to.distance,
+            to,
             over,
-        );
-        self.marks.push(here)?;
-        self.durations.push(to.duration)?;
-        let trips = self.so_far.trips;
-        self.table.push(visits[k], tail_of(trips), middle_of(trips), head_of(trips))?;
-        Ok(())
+        )
     }
 
     /// The end: the leg to it is read.
@@ -144,6 +211,7 @@ pub(crate) fn passed_forward(
 }
 
 /// The leg from a position of a list to another one.
+#[inline(always)]
 fn leg_along(
     given: &ProblemData,
     vehicle_type: &VehicleType,

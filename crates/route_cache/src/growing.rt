@@ -11,9 +11,11 @@ ghost use Rattle.route_cache.specs.Marks.{place_along};
 use problem_data::{Leg, ProblemData, VehicleType, Visit};
 use trips::RunSegment;
 
-/// A run with the visit behind it, over this leg.
+/// A run with the k-th visit behind it, over this leg.
+#[inline(always)]
 pub(crate) fn grown_behind(
     so_far: RunSegment,
+    visit: Visit,
     given: &ProblemData,
     vehicle_type: &VehicleType,
     visits: &[Visit],
@@ -24,6 +26,7 @@ pub(crate) fn grown_behind(
     requires vehicle_type { IsValidType given.now vehicle_type.now }
     requires listed { IsListed given.now visits.now }
     requires in_list { k < length visits.now }
+    requires visit { visit ≡ slice_index_or visits.now k (Visit.Client 0) }
     requires goes_on { GoesOn given.now vehicle_type.now visits.now k so_far }
     requires distance { leg.distance ≡ leg_distance given.now vehicle_type.now.profile (place_along vehicle_type.now visits.now k) (place_along vehicle_type.now visits.now (k + 1)) }
     requires duration { leg.duration ≡ leg_duration given.now vehicle_type.now.profile (place_along vehicle_type.now visits.now k) (place_along vehicle_type.now visits.now (k + 1)) }
@@ -31,13 +34,15 @@ pub(crate) fn grown_behind(
         HoldsRun given.now vehicle_type.now result (run_up_to starts visits.now first (k + 1)) }
     ensures grows { Grows front (slice_index_or visits.now k (Visit.Client 0)) so_far.trips result.trips }
 {
-    let next = RunSegment::visit(given, visits[k]);
+    let next = RunSegment::visit(given, visit);
     so_far.merge(next, leg, vehicle_type.capacity)
 }
 
 /// The visits from one on, with the end: the visit before them, over this leg.
+#[inline(always)]
 pub(crate) fn grown_before(
     so_far: RunSegment,
+    visit: Visit,
     given: &ProblemData,
     vehicle_type: &VehicleType,
     visits: &[Visit],
@@ -48,12 +53,13 @@ pub(crate) fn grown_before(
     requires vehicle_type { IsValidType given.now vehicle_type.now }
     requires listed { IsListed given.now visits.now }
     requires in_list { at < length visits.now }
+    requires visit { visit ≡ slice_index_or visits.now at (Visit.Client 0) }
     requires holds { HoldsRun given.now vehicle_type.now so_far (run_from visits.now (at + 1)) }
     requires distance { leg.distance ≡ leg_distance given.now vehicle_type.now.profile (place_along vehicle_type.now visits.now (at + 1)) (place_along vehicle_type.now visits.now (at + 2)) }
     requires duration { leg.duration ≡ leg_duration given.now vehicle_type.now.profile (place_along vehicle_type.now visits.now (at + 1)) (place_along vehicle_type.now visits.now (at + 2)) }
     ensures holds { HoldsRun given.now vehicle_type.now result (run_from visits.now at) }
     ensures grows { Grows back (slice_index_or visits.now at (Visit.Client 0)) so_far.trips result.trips }
 {
-    let front = RunSegment::visit(given, visits[at]);
+    let front = RunSegment::visit(given, visit);
     front.merge(so_far, leg, vehicle_type.capacity)
 }

@@ -63,6 +63,7 @@ impl Mark {
     }
 
     /// The visit behind this mark, where what the start with all visits up to it adds up to is known, and the legs.
+    #[inline(always)]
     pub(crate) fn at_visit(
         self,
         given: &ProblemData,

@@ -39,6 +39,7 @@ impl PieceTable {
     }
 
     /// One visit more: the piece of the trip that goes on there, and at a reload what else has become known.
+    #[inline(always)]
     pub(crate) fn push(
         &mut self,
         visit: Visit,

@@ -352,7 +352,7 @@ fn folded(
             distance: marks[k + 1].leg,
             duration: durations[k + 1],
         };
-        so_far = grown_behind(so_far, given, vehicle_type, visits, k, leg);
+        so_far = grown_behind(so_far, visits[k], given, vehicle_type, visits, k, leg);
     }
     so_far.trips
 }

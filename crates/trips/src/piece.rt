@@ -19,6 +19,7 @@ pub struct Piece {
 
 impl Piece {
     /// Both in one trip, `right` behind `self`, with a leg of duration `travel` between them.
+    #[inline(always)]
     pub(crate) fn merge(self, right: Piece, travel: i64) -> Piece
         requires { CanMergePieces self right travel }
         ensures value { result ≡ merged_piece self right travel }

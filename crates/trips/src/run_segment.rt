@@ -46,6 +46,7 @@ impl RunSegment {
     }
 
     /// One client, by each type. Condition: the place is a client's.
+    #[inline(always)]
     pub fn client(given: &ProblemData, place: u32) -> RunSegment
         requires { IsTrue (is_client_place given.now place) }
         ensures { HoldsVisit given.now (Visit.Client place) result }
@@ -69,6 +70,7 @@ impl RunSegment {
     }
 
     /// One visit, by each type. Condition: it names a place that is there.
+    #[inline(always)]
     pub fn visit(given: &ProblemData, visit: Visit) -> RunSegment
         requires { IsTrue (names_place given.now visit) }
         ensures { HoldsVisit given.now visit result }
@@ -82,6 +84,7 @@ impl RunSegment {
     /// Both, `right` behind `self`, with this leg between them, for a vehicle of this capacity.
     ///
     /// Condition: what they add up to is at most 10^16.
+    #[inline(always)]
     pub fn merge(self, right: RunSegment, leg: Leg, capacity: u64) -> RunSegment
         requires { CanMergeRunSegments self right leg.distance leg.duration capacity }
         ensures joins { JoinsRunSegments self right leg.distance leg.duration capacity result }

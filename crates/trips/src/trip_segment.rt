@@ -97,6 +97,7 @@ impl TripSegment {
     /// Where both have reloads, the trip between the last of `self` and the first of `right` is closed, for this capacity.
     ///
     /// Condition: each segment inside is sound, releases are at most 10^12, and what they add up to is at most 10^16.
+    #[inline(always)]
     pub fn merge(self, right: TripSegment, travel: i64, capacity: u64) -> TripSegment
         requires { CanMerge self right travel capacity }
         ensures value { result ≡ merged_trips self right travel capacity }

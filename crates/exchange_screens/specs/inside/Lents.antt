@@ -2,11 +2,12 @@
 use Rattle.std.specs.Prelude.{◌≡◌, ℕ, ◌+◌, ◌<◌}
 use Rattle.problem_data.specs.Places.{leg_distance}
 use Rattle.move_core.specs.Searches.{SearchState}
-use Rattle.exchange_screens.specs.declared.layout.Layout.{Layout}
+use Rattle.list_changes.specs.declared.layout.Layout.{Layout}
 use Rattle.exchange_screens.specs.declared.lent.Lent.{Lent}
-use Rattle.exchange_screens.specs.Changes.{IsSide}
-use Rattle.exchange_screens.specs.inside.Bounds.{IsPaid}
-use Rattle.exchange_screens.specs.inside.Seats.{IsSeat, lent_layout, place_in}
+use Rattle.list_changes.specs.Changes.{IsSide}
+use Rattle.list_changes.specs.Bounds.{IsPaid}
+use Rattle.exchange_screens.specs.inside.Seats.{IsSeat, place_in}
+use Rattle.list_changes.specs.Layouts.{lent_layout}
 
 -- its layout
 abbrev pub layout_of : Lent → Layout

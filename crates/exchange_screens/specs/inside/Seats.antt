@@ -7,10 +7,10 @@ use Rattle.routing_model.specs.Routes.{list_at}
 use Rattle.search_model.specs.Edits.{position_of}
 use Rattle.route_cache.specs.Marks.{place_along}
 use Rattle.move_core.specs.Searches.{SearchState, largest_rest, rest_of}
-use Rattle.exchange_screens.specs.declared.layout.Layout.{Layout}
 use Rattle.exchange_screens.specs.declared.piece.Piece.{Piece}
 use Rattle.exchange_screens.specs.declared.seat.Seat.{Seat}
-use Rattle.exchange_screens.specs.inside.Bounds.{IsPaid}
+use Rattle.list_changes.specs.Bounds.{IsPaid}
+use Rattle.list_changes.specs.Layouts.{left_layout}
 use Rattle.exchange_screens.specs.inside.Pieces.{IsPieceFrom}
 
 -- a client stands there, and the numbers are its vehicle's
@@ -35,14 +35,6 @@ place_in s vehicle position = place_along (type_of_vehicle s.problem vehicle) (l
 -- the visits of a client and those behind it, n together
 abbrev pub piece_at : Seat → ℕ → Piece
 piece_at seat n = record { vehicle = seat.vehicle; first = seat.place - 1; end = seat.place - 1 + n }
-
--- a list with a run of another one in the place of some visits, and without these
-abbrev pub lent_layout : ℕ → ℕ → ℕ → ℕ → Layout
-lent_layout left right first end =
-    record { left = left; one = record { first = first; end = end }; two = record { first = 0; end = 0 }; three = record { first = 0; end = 0 }; right = right }
-
-abbrev pub left_layout : ℕ → ℕ → Layout
-left_layout left right = lent_layout left right 0 0
 
 -- the piece of n is there, and what goes of its vehicle's cost at most where others stand in its place
 pub record IsTaken (s : SearchState) (seat : Seat) (n paid : ℕ) : Type 0 where

@@ -6,7 +6,7 @@ use Rattle.problem_data.specs.Places.{leg_distance, vehicle_count}
 use Rattle.problem_data.specs.Valid.{IsValid}
 use Rattle.routing_model.specs.Cost.{length_of}
 use Rattle.routing_model.specs.Lawful.{names_place}
-use Rattle.routing_model.specs.Listed.{IsListed, type_of_vehicle}
+use Rattle.routing_model.specs.Listed.{type_of_vehicle}
 use Rattle.trips.specs.Runs.{Run, run_stops}
 use Rattle.segments.specs.Totals.{IsTotal, largest_total}
 use Rattle.trips.specs.declared.run_segment.RunSegment.{RunSegment}

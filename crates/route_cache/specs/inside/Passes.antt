@@ -1,9 +1,9 @@
 -- What the passes over a list have made at each step.
-use Rattle.std.specs.Prelude.{◌≡◌, ℕ, ◌+◌, ◌-◌, ◌≤◌, List, length, slice_index_or}
+use Rattle.std.specs.Prelude.{◌≡◌, ℕ, ◌+◌, ◌≤◌, List, length, slice_index_or}
 use Rattle.problem_data.specs.declared.problem.Problem.{Problem}
 use Rattle.problem_data.specs.declared.problem.VehicleType.{VehicleType}
 use Rattle.problem_data.specs.declared.visit.Visit.{Visit}
-use Rattle.problem_data.specs.Places.{leg_distance, leg_duration}
+use Rattle.problem_data.specs.Places.{leg_duration}
 use Rattle.trips.specs.RunSegments.{HoldsRun}
 use Rattle.route_cache.specs.declared.forward.Forward.{Forward}
 use Rattle.route_cache.specs.declared.backward.Backward.{Backward}

@@ -1,6 +1,6 @@
 use Rattle.std.proofs.Common.{◌+◌, ◌-◌, List, subst}
 use Rattle.problem_data.specs.declared.visit.Visit.{Visit}
-use Rattle.exchange_screens.specs.inside.Gaps.{IsGap}
+use Rattle.list_changes.specs.Gaps.{IsGap}
 use Rattle.exchange_screens.proofs.DearTrials.{dear-answer}
 use Rattle.exchange_screens.proofs.LookedTrials.{is-put, put-change, put-none}
 use Rattle.exchange_screens.proofs.across.is_put_hopeless.Goals as goal
@@ -15,7 +15,7 @@ is_put_dear-requires-clause-side c =
     let r = c.requires in
     let one = rw c.in-Some.is at r.taken_u in
     let gone = subst (λ (xs : List Visit). IsGap xs (c.args.u.place - 1) (c.args.u.place - 1 + c.args.n) c.gap_of-gap.result) c.route.ensures.visits c.gap_of-gap.ensures in
-    (put-change c.args.search.now c.soundness.ensures c.args.u c.args.v r.u r.v c.args.n r.some r.few r.apart one.there c.gap_of-gap.result gone).laid.first_side
+    (put-change c.args.search.now c.soundness.ensures c.args.u c.args.v r.u r.v c.args.n r.some r.few r.apart one.there c.gap_of-gap.result gone).move.laid.first_side
 
 pub is_put_dear-requires-clause-lent : goal.is_put_dear-requires-clause-lent
 is_put_dear-requires-clause-lent c =
@@ -23,7 +23,7 @@ is_put_dear-requires-clause-lent c =
     let one = rw c.in-Some.is at r.taken_u in
     let gone = subst (λ (xs : List Visit). IsGap xs (c.args.u.place - 1) (c.args.u.place - 1 + c.args.n) c.gap_of-gap.result) c.route.ensures.visits c.gap_of-gap.ensures in
     let change = put-change c.args.search.now c.soundness.ensures c.args.u c.args.v r.u r.v c.args.n r.some r.few r.apart one.there c.gap_of-gap.result gone in
-    is-put c.args.search.now c.args.u c.args.v r.u r.v c.args.n c.args.paid c.args.come r.paid r.some r.come change.laid.second_side
+    is-put c.args.search.now c.args.u c.args.v r.u r.v c.args.n c.args.paid c.args.come r.paid r.some r.come change.move.laid.second_side
 
 pub returns-clause-hopeless : goal.returns-clause-hopeless
 returns-clause-hopeless c = λ dear.

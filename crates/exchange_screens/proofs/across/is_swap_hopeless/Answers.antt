@@ -18,7 +18,7 @@ is_lent_dear-requires-clause-one c =
     let two = rw c.in-Some-taken_v.is at r.taken_v in
     let change = swap-change c.args.search.now c.soundness.ensures c.args.u c.args.v r.u r.v c.args.n r.exchange.some r.exchange.few r.apart c.args.m r.other r.exchange.fewer one.there two.there in
     rw (c.replaced-one.ensures, c.replaced-two.ensures)
-    (is-replaced c.args.search.now c.args.u c.args.v r.u r.v c.args.n c.args.m c.in-Some.paid_u c.args.to_v one r.other r.to_v change.laid.first_side)
+    (is-replaced c.args.search.now c.args.u c.args.v r.u r.v c.args.n c.args.m c.in-Some.paid_u c.args.to_v one r.other r.to_v change.move.laid.first_side)
 
 pub is_lent_dear-requires-clause-two : goal.is_lent_dear-requires-clause-two
 is_lent_dear-requires-clause-two c =
@@ -27,7 +27,7 @@ is_lent_dear-requires-clause-two c =
     let two = rw c.in-Some-taken_v.is at r.taken_v in
     let change = swap-change c.args.search.now c.soundness.ensures c.args.u c.args.v r.u r.v c.args.n r.exchange.some r.exchange.few r.apart c.args.m r.other r.exchange.fewer one.there two.there in
     rw (c.replaced-one.ensures, c.replaced-two.ensures)
-    (is-replaced c.args.search.now c.args.v c.args.u r.v r.u c.args.m c.args.n c.in-Some-taken_v.paid_v c.args.to_u two r.exchange.some r.to_u change.laid.second_side)
+    (is-replaced c.args.search.now c.args.v c.args.u r.v r.u c.args.m c.args.n c.in-Some-taken_v.paid_v c.args.to_u two r.exchange.some r.to_u change.move.laid.second_side)
 
 pub returns-clause-hopeless : goal.returns-clause-hopeless
 returns-clause-hopeless c = λ dear.

@@ -3,9 +3,9 @@ use Rattle.problem_data.specs.Places.{leg_distance}
 use Rattle.routing_model.specs.Listed.{type_of_vehicle}
 use Rattle.routing_model.specs.Routes.{list_at}
 use Rattle.route_cache.specs.Marks.{place_along}
-use Rattle.exchange_screens.specs.Layouts.{runs_of}
+use Rattle.list_changes.specs.Layouts.{runs_of}
 use Rattle.exchange_screens.specs.inside.Lents.{layout_of}
-use Rattle.exchange_screens.specs.inside.Ways.{way_by}
+use Rattle.list_changes.specs.Ways.{way_by}
 use Rattle.exchange_screens.proofs.LookLaws.{least-lent}
 use Rattle.exchange_screens.proofs.lent.far.Goals as goal
 

@@ -1,7 +1,7 @@
 use Rattle.std.proofs.Common.{◌≤◌, subst}
-use Rattle.exchange_screens.specs.declared.layout.Layout.{Layout}
-use Rattle.exchange_screens.specs.Changes.{new_list}
-use Rattle.exchange_screens.specs.inside.Bounds.{overloaded}
+use Rattle.list_changes.specs.declared.layout.Layout.{Layout}
+use Rattle.list_changes.specs.Changes.{new_list}
+use Rattle.list_changes.specs.Bounds.{overloaded}
 use Rattle.exchange_screens.specs.inside.Lents.{layout_of}
 use Rattle.exchange_screens.proofs.LookLaws.{two-dear, two-dear-far}
 use Rattle.exchange_screens.proofs.lent.is_lent_dear.Goals as goal

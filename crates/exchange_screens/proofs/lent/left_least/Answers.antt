@@ -1,7 +1,6 @@
 use Rattle.std.proofs.Common.{◌≡◌, true, false, length, ◌∙◌, sym}
 use Rattle.routing_model.specs.Routes.{list_at}
-use Rattle.exchange_screens.specs.Layouts.{has_no_visit}
-use Rattle.exchange_screens.specs.inside.Seats.{left_layout}
+use Rattle.list_changes.specs.Layouts.{has_no_visit, left_layout}
 use Rattle.exchange_screens.proofs.LookLaws.{least-none, least-some}
 use Rattle.exchange_screens.proofs.lent.left_least.Goals as goal
 

@@ -1,7 +1,8 @@
 use Rattle.std.proofs.Common.{◌∙◌}
 use Rattle.routing_model.specs.Listed.{type_of_vehicle}
 use Rattle.routing_model.specs.Routes.{list_at}
-use Rattle.exchange_screens.proofs.LookLaws.{least-lent, lent-near}
+use Rattle.list_changes.proofs.LentWays.{lent-near}
+use Rattle.exchange_screens.proofs.LookLaws.{least-lent}
 use Rattle.exchange_screens.proofs.lent.near.Goals as goal
 
 pub returns : goal.returns

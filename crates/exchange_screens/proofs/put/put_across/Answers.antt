@@ -1,6 +1,6 @@
 use Rattle.std.proofs.Common.{List, subst}
 use Rattle.problem_data.specs.declared.visit.Visit.{Visit}
-use Rattle.exchange_screens.specs.inside.Gaps.{IsGap}
+use Rattle.list_changes.specs.Gaps.{IsGap}
 use Rattle.exchange_screens.proofs.Changes.{across-change}
 use Rattle.exchange_screens.proofs.put.put_across.Goals as goal
 

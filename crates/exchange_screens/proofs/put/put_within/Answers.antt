@@ -1,6 +1,6 @@
 use Rattle.std.proofs.Common.{List, subst}
 use Rattle.problem_data.specs.declared.visit.Visit.{Visit}
-use Rattle.exchange_screens.specs.inside.Gaps.{IsGap}
+use Rattle.list_changes.specs.Gaps.{IsGap}
 use Rattle.exchange_screens.proofs.Changes.{earlier-change, later-change}
 use Rattle.exchange_screens.proofs.PutLaws.{no-move}
 use Rattle.exchange_screens.proofs.put.put_within.Goals as goal

@@ -4,9 +4,9 @@ use Rattle.problem_data.specs.declared.problem.VehicleType.{VehicleType}
 use Rattle.routing_model.specs.Cost.{distance, route_cost}
 use Rattle.routing_model.specs.Listed.{type_of_vehicle}
 use Rattle.routing_model.specs.Routes.{list_at}
-use Rattle.exchange_screens.specs.inside.Seats.{left_layout}
-use Rattle.exchange_screens.specs.inside.Ways.{own_run, way_by}
-use Rattle.exchange_screens.proofs.BoundLaws.{paid-uncut}
+use Rattle.list_changes.specs.Layouts.{left_layout}
+use Rattle.list_changes.specs.Ways.{own_run, way_by}
+use Rattle.list_changes.proofs.BoundLaws.{paid-uncut}
 use Rattle.exchange_screens.proofs.seat.paid_over.Goals as goal
 
 pub returns : goal.returns

@@ -1,4 +1,4 @@
-use Rattle.std.proofs.Common.{◌≡◌, ℕ, ◌<◌, ◌+◌, false, length, get_or, subst, sym, arith, rules, ◌∙◌}
+use Rattle.std.proofs.Common.{◌≡◌, ℕ, ◌<◌, ◌+◌, false, length, subst, sym, arith}
 use Rattle.problem_data.specs.declared.visit.Visit.TheVariants.{Client}
 use Rattle.trips.specs.RunSegments.{HoldsRun}
 use Rattle.trips.proofs.RunSteps.{part-one}

@@ -1,4 +1,4 @@
-use Rattle.std.proofs.Common.{◌≡◌, ◌+◌, [], ◌∷◌, ◌++◌, ◌∙◌, rules, length}
+use Rattle.std.proofs.Common.{◌≡◌, [], ◌∷◌, ◌++◌, ◌∙◌, rules, length}
 use Rattle.route_cache.proofs.MarkFacts.{leg-next, marked-more}
 use Rattle.route_cache.proofs.forward.Forward.finish.Goals as goal
 

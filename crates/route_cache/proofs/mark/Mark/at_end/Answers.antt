@@ -1,7 +1,6 @@
 use Rattle.std.proofs.Common.{◌≡◌, arith, refl, w64, to_z, of_z}
 use Rattle.std.proofs.lemmas.Int.{ints}
 use Rattle.route_cache.proofs.MarkFacts.{deliveries-few, distance-few, mark-end, pickups-few, prizes-few}
-use Rattle.std.specs.Prelude.{ℤ}
 use Rattle.std.proofs.Common.{length}
 use Rattle.route_cache.proofs.mark.Mark.at_end.Goals as goal
 

@@ -1,8 +1,8 @@
-use Rattle.std.proofs.Common.{◌≡◌, ◌+◌, ◌≤◌, length, arith}
+use Rattle.std.proofs.Common.{arith}
 use Rattle.std.proofs.lemmas.Int.{ints}
 use Rattle.routing_model.specs.Listed.{type_of_vehicle}
 use Rattle.route_cache.proofs.Lengths.{length-along}
-use Rattle.route_cache.proofs.MarkFacts.{no_mark, total-of}
+use Rattle.route_cache.proofs.MarkFacts.{no_mark}
 use Rattle.route_cache.proofs.route.Route.driven.Goals as goal
 
 pub returns-clause-in_range : goal.returns-clause-in_range

@@ -1,7 +1,5 @@
 use Rattle.std.proofs.Common.{sym, subst}
-use Rattle.std.specs.Prelude.{List}
 use Rattle.routing_model.specs.Listed.{type_of_vehicle}
-use Rattle.route_cache.specs.declared.mark.Mark.{Mark}
 use Rattle.route_cache.specs.Marks.{AreMarks}
 use Rattle.route_cache.specs.Routes.{RouteState}
 use Rattle.route_cache.proofs.MarkFacts.{marks-all}

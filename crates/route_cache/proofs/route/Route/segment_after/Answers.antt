@@ -2,7 +2,6 @@ use Rattle.std.proofs.Common.{◌≡◌, ◌≤◌, ◌+◌, ◌-◌, ap, length
 use Rattle.routing_model.specs.Listed.{type_of_vehicle}
 use Rattle.trips.specs.declared.piece.Piece.{Piece}
 use Rattle.trips.specs.RunSegments.{run_from}
-use Rattle.route_cache.specs.declared.mark.Mark.{Mark}
 use Rattle.route_cache.specs.inside.Shapes.{back, shaped}
 use Rattle.route_cache.specs.inside.Tables.{TripsHold}
 use Rattle.route_cache.specs.Routes.{RouteState}

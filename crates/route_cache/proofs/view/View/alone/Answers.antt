@@ -1,4 +1,4 @@
-use Rattle.std.proofs.Common.{◌≡◌, ◌∙◌, ap, subst, None}
+use Rattle.std.proofs.Common.{◌∙◌, ap, subst}
 use Rattle.std.specs.Option.{option_map}
 use Rattle.route_cache.specs.inside.Lookups.{IsAlone}
 use Rattle.route_cache.specs.Routes.{ViewState}

@@ -1,0 +1,12 @@
+pub mod BoundLaws
+pub mod DearMoves
+pub mod Fronts
+pub mod LaidLists
+pub mod LaidMoves
+pub mod LentWays
+pub mod LoadLaws
+pub mod MoveAnswers
+pub mod NewViews
+pub mod NodeVehicles
+pub mod ProposedChanges
+pub mod WayLaws

@@ -1,0 +1,12 @@
+pub mod Aims
+pub mod Bounds
+pub mod Changes
+pub mod Gaps
+pub mod Improvements
+pub mod inside
+pub mod Layouts
+pub mod Loads
+pub mod Moves
+pub mod Reads
+pub mod Views
+pub mod Ways

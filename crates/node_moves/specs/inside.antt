@@ -1,3 +1,0 @@
--- Words that only invariants, private contracts and proofs cite.
-pub mod Improvements
-pub mod Views
