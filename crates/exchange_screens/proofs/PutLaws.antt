@@ -1,5 +1,5 @@
 -- The moves of kinds 1 to 3, by what the code looks up: the piece, the place that the target names, and the gap that the piece leaves.
-use Rattle.std.proofs.Common.{◌≡◌, ◌≢◌, ℕ, ◌<◌, ◌≤◌, ◌⊎◌, true, List, ◌++◌, length, refl, sym, ◌∙◌, ap, ap₂, subst, inl, inr, arith, None, slice_get, slice_range}
+use Rattle.std.proofs.Common.{◌≡◌, ◌≢◌, ℕ, ◌<◌, ◌≤◌, ◌⊎◌, true, List, ◌++◌, length, sym, ◌∙◌, ap, ap₂, subst, inl, inr, arith, None, slice_get, slice_range}
 use Rattle.std.specs.Prelude.{option_and_then}
 use Rattle.problem_data.specs.declared.visit.Visit.{Visit}
 use Rattle.routing_model.specs.Routes.{list_at}
@@ -16,11 +16,9 @@ use Rattle.search_model.proofs.PutMoves.{NamesNone, NamesPlace, place-within, pu
 use Rattle.search_model.proofs.RunMoves.{with_run}
 use Rattle.gain_model.proofs.OperatorAnswers.{answer-none}
 use Rattle.gain_model.proofs.ProposedMoves.{dear-one}
-use Rattle.trips.specs.declared.joint.Joint.{Joint}
-use Rattle.trips.specs.declared.joint.Joint.TheVariants.{DropLeft, DropRight, Keep}
 use Rattle.trips.specs.Joints.{joint_of}
 use Rattle.route_cache.specs.Gaps.{visit_before}
-use Rattle.route_cache.proofs.Gaps.{joined-earlier, joined-gap, joined-later, left_by, right_by}
+use Rattle.route_cache.proofs.Gaps.{joined-earlier, joined-later, left_by, right_by}
 use Rattle.move_core.specs.Searches.{IsSound, SearchState}
 use Rattle.list_changes.specs.declared.aim.Aim.{Aim}
 use Rattle.list_changes.specs.declared.gap.Gap.{Gap}
@@ -29,8 +27,9 @@ use Rattle.list_changes.specs.declared.layout.Span.{Span}
 use Rattle.exchange_screens.specs.declared.piece.Piece.{Piece}
 use Rattle.exchange_screens.specs.declared.trial.Trial.{Trial}
 use Rattle.list_changes.specs.Aims.{IsAim, IsNoAim, Names}
-use Rattle.list_changes.specs.Gaps.{IsGap, gap_by}
+use Rattle.list_changes.specs.Gaps.{IsGap}
 use Rattle.list_changes.specs.Layouts.{laid_out}
+use Rattle.list_changes.proofs.GapLists.{gap-left, gap-list, gap-right}
 use Rattle.exchange_screens.specs.inside.Pieces.{IsPieceFrom}
 use Rattle.exchange_screens.specs.Trials.{IsAnswer, candidate_of}
 use Rattle.exchange_screens.proofs.Exchanged.{made-exchange}
@@ -58,17 +57,6 @@ without_layout gap = record { left = gap.left; one = nothing; two = nothing; thr
 
 abbrev pub with_layout : Piece → ℕ → Layout
 with_layout piece place = record { left = place; one = span_of_piece piece; two = nothing; three = nothing; right = place }
-
--- the gap's positions
-gap-left : (j : Joint) (k m : ℕ) → (gap_by j k m).left ≡ left_by j k
-gap-left Keep k m = refl
-gap-left DropLeft k m = refl
-gap-left DropRight k m = refl
-
-gap-right : (j : Joint) (k m : ℕ) → (gap_by j k m).right ≡ right_by j m
-gap-right Keep k m = refl
-gap-right DropLeft k m = refl
-gap-right DropRight k m = refl
 
 -- the place that a target names
 named : (s : SearchState) (target : Target) (aim : Aim) → Names s target aim → NamesPlace s.problem s.routes target aim.vehicle aim.place
@@ -179,12 +167,8 @@ module _ (s : SearchState) (sound : IsSound s) (trial : Trial) (put : trial.m �
       moves-across gap gone apart =
           let long = is.long in
           let within = is.within in
-          let j : Joint = joint_of (visit_before A piece.first) (slice_get A piece.end) in
-          let left_is : gap.left ≡ left_by j piece.first = ap (λ (g : Gap). g.left) gone.is ∙ gap-left j piece.first piece.end in
-          let right_is : gap.right ≡ right_by j piece.end = ap (λ (g : Gap). g.right) gone.is ∙ gap-right j piece.first piece.end in
           let list : joined (slice_range A 0 piece.first) (slice_range A piece.end (length A)) ≡ laid_out A (list_at s.routes aim.vehicle) (without_layout gap) =
-          joined-gap A piece.first piece.end (omega arith) within
-          ∙ ap₂ (λ (l r : ℕ). slice_range A 0 l ++ slice_range A r (length A)) (sym left_is) (sym right_is) in
+          gap-list A piece.first piece.end gap gone (omega arith) within in
           subst (λ (xs : List Visit). MovesTwo s.problem s.weights s.routes (candidate_of trial) piece.vehicle aim.vehicle xs (laid_out (list_at s.routes aim.vehicle) A (with_layout piece aim.place))) list
           (subst (λ (e : ℕ). MovesTwo s.problem s.weights s.routes (candidate_of trial) piece.vehicle aim.vehicle (joined (slice_range A 0 piece.first) (slice_range A e (length A)))
           (with_run (list_at s.routes aim.vehicle) aim.place aim.place (slice_range A piece.first e))) (sym is.long)

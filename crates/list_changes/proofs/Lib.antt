@@ -1,12 +1,14 @@
+pub mod AllowedLists
 pub mod BoundLaws
 pub mod DearMoves
 pub mod Fronts
+pub mod GapLists
 pub mod LaidLists
 pub mod LaidMoves
+pub mod LaidNewLists
 pub mod LentWays
 pub mod LoadLaws
 pub mod MoveAnswers
-pub mod NewViews
 pub mod NodeVehicles
-pub mod ProposedChanges
+pub mod Unvisited
 pub mod WayLaws

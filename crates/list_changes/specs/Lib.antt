@@ -7,6 +7,6 @@ pub mod inside
 pub mod Layouts
 pub mod Loads
 pub mod Moves
+pub mod NewLists
 pub mod Reads
-pub mod Views
 pub mod Ways

@@ -2,17 +2,16 @@
 ghost use Rattle.std.specs.Prelude.{◌≡◌, IsTrue};
 ghost use Rattle.problem_data.specs.Reads.{RoseAtMost};
 ghost use Rattle.routing_model.specs.Lawful.{is_lawful};
-ghost use Rattle.list_changes.specs.declared.change.Change.TheVariants.{One, Two};
-ghost use Rattle.list_changes.specs.Changes.{AreSides, IsLaid, IsSide, new_plan};
+ghost use Rattle.gain_model.specs.declared.part.Part.TheVariants.{Run};
+ghost use Rattle.list_changes.specs.Changes.{IsLaid, new_plan};
 ghost use Rattle.list_changes.specs.Improvements.{IsImprovement};
+ghost use Rattle.list_changes.specs.NewLists.{laid_list, lists_of};
 ghost use Rattle.list_changes.specs.Reads.{improve_reads};
-ghost use Rattle.list_changes.specs.Views.{proposal_of};
 
 use crate::change::Change;
-use crate::laying::lay_out;
-use crate::layout::Layout;
-use move_core::Search;
-use penalty_cost::{Gain, Proposal, Side};
+use crate::layout::{Layout, Span};
+use move_core::{Gain, Part, Search};
+use new_lists::{NewList, NewLists};
 use problem_data::{Reads, Steps};
 
 /// The gain of a change, where it lowers the cost. Condition: the plan with the new lists is lawful. It reads at most `improve_reads`
@@ -25,61 +24,45 @@ pub fn improving_gain(search: &Search<'_>, change: Change, reads: &mut Steps<Rea
     ensures gain { IsImprovement search.now change result }
     ensures reads { RoseAtMost (improve_reads search.now change) reads.old reads.new }
 {
-    let proposal = proposed(search, change, reads);
-    proposal.improving(search.weights(), reads)
+    new_lists::improving_gain(search, lists_of(change), reads)
 }
 
-/// The new lists of a change, as a proposal. No leg is read.
-fn proposed<'s>(search: &'s Search<'_>, change: Change, reads: &mut Steps<Reads>) -> Proposal<'s>
-    requires { IsLaid search.now change }
-    ensures proposal { result ≡ proposal_of search.now change }
-    ensures reads { RoseAtMost 0 reads.old reads.new }
+/// The new lists of a change, by parts of a plan.
+pub fn lists_of(change: Change) -> NewLists
+    ensures { result ≡ lists_of change }
 {
     match change {
-        Change::One { vehicle, layout } => proposed_one(search, vehicle, layout, reads),
+        Change::One { vehicle, layout } => NewLists::One(laid_list(vehicle, vehicle, layout)),
         Change::Two {
             first,
             second,
             one,
             two,
-        } => proposed_two(search, first, second, one, two, reads),
+        } => NewLists::Two(laid_list(first, second, one), laid_list(second, first, two)),
     }
 }
 
-/// One vehicle's new list.
-fn proposed_one<'s>(
-    search: &'s Search<'_>,
-    vehicle: u32,
-    layout: Layout,
-    reads: &mut Steps<Reads>,
-) -> Proposal<'s>
-    requires { IsSide search.now vehicle vehicle layout }
-    ensures proposal { result ≡ proposal_of search.now (One vehicle layout) }
-    ensures reads { RoseAtMost 0 reads.old reads.new }
+/// A vehicle's new list, by runs of a lender's list.
+fn laid_list(vehicle: u32, lender: u32, layout: Layout) -> NewList
+    ensures { result ≡ laid_list vehicle lender layout }
 {
-    let route = search.route(vehicle);
-    let mut proposal = Proposal::one(route);
-    lay_out(&mut proposal, Side::First, route, route, layout, reads);
-    proposal
+    NewList {
+        vehicle,
+        left: layout.left,
+        one: run(lender, layout.one),
+        two: run(lender, layout.two),
+        three: run(lender, layout.three),
+        right: layout.right,
+    }
 }
 
-/// Those of two vehicles.
-fn proposed_two<'s>(
-    search: &'s Search<'_>,
-    first: u32,
-    second: u32,
-    one: Layout,
-    two: Layout,
-    reads: &mut Steps<Reads>,
-) -> Proposal<'s>
-    requires { AreSides search.now first second one two }
-    ensures proposal { result ≡ proposal_of search.now (Two first second one two) }
-    ensures reads { RoseAtMost 0 reads.old reads.new }
+/// Some visits of a vehicle's list.
+fn run(vehicle: u32, span: Span) -> Part
+    ensures { result ≡ Run vehicle span.first span.end }
 {
-    let a = search.route(first);
-    let b = search.route(second);
-    let mut proposal = Proposal::two(a, b);
-    lay_out(&mut proposal, Side::First, a, b, one, reads);
-    lay_out(&mut proposal, Side::Second, b, a, two, reads);
-    proposal
+    Part::Run {
+        vehicle,
+        first: span.first,
+        end: span.end,
+    }
 }

@@ -1,26 +1,28 @@
-use Rattle.std.proofs.Common.{◌≤◌, sym, subst, arith}
-use Rattle.gain_model.specs.GainReads.{gain_reads}
-use Rattle.penalty_cost.specs.Proposals.{CanBeCosted, IsImproving, ProposalState, seen_sides}
-use Rattle.routing_model.specs.declared.weights.Weights.{Weights}
-use Rattle.list_changes.specs.Reads.{improve_reads}
-use Rattle.list_changes.proofs.ProposedChanges.{costed, few-reads, improvement}
+use Rattle.std.proofs.Common.{◌≡◌, ◌+◌, ◌≤◌, true, sym, subst, arith}
+use Rattle.routing_model.specs.Lawful.{is_lawful}
+use Rattle.new_lists.specs.declared.new_list.NewLists.{NewLists}
+use Rattle.new_lists.specs.Improvements as new
+use Rattle.new_lists.specs.NewLists.{AreNewLists, plan_of}
+use Rattle.new_lists.specs.Reads as parts
+use Rattle.list_changes.proofs.LaidNewLists.{are-new-lists, lawful-lists, no-more-reads, of-lists}
 use Rattle.list_changes.proofs.improving.improving_gain.Goals as goal
 
-pub improving-requires-clause-costed : goal.improving-requires-clause-costed
-improving-requires-clause-costed c =
-    subst CanBeCosted (sym c.proposed-proposal.ensures.proposal) (costed c.args.search.now c.weights.ensures.sound c.args.change c.requires.laid c.requires.lawful)
+pub improving_gain-requires-clause-lists : goal.improving_gain-requires-clause-lists
+improving_gain-requires-clause-lists c = subst (AreNewLists c.args.search.now) (sym c.lists_of.ensures) (are-new-lists c.args.search.now c.args.change c.requires.laid)
+
+pub improving_gain-requires-clause-lawful : goal.improving_gain-requires-clause-lawful
+improving_gain-requires-clause-lawful c =
+    let s = c.args.search.now in
+    subst (λ (lists : NewLists). is_lawful s.problem (plan_of s.routes lists) ≡ true) (sym c.lists_of.ensures) (lawful-lists s c.args.change c.requires.lawful)
 
 pub returns-clause-gain : goal.returns-clause-gain
 returns-clause-gain c =
     let s = c.args.search.now in
-    improvement s c.weights.ensures.sound c.args.change c.requires.laid c.requires.lawful c.improving.result
-    (subst (λ (q : ProposalState). IsImproving s.weights q c.improving.result) c.proposed-proposal.ensures.proposal
-    (subst (λ (w : Weights). IsImproving w c.proposed-proposal.result c.improving.result) c.weights.ensures.weights c.improving.ensures.gain))
+    of-lists s c.args.change c.improving_gain.result (subst (λ (lists : NewLists). new.IsImprovement s lists c.improving_gain.result) c.lists_of.ensures c.improving_gain.ensures.gain)
 
 pub returns-clause-reads : goal.returns-clause-reads
 returns-clause-reads c =
-    let few = few-reads c.args.search.now c.weights.ensures.sound c.args.change c.requires.laid c.requires.lawful in
-    let most = subst (λ (q : ProposalState). gain_reads (seen_sides q) ≤ improve_reads c.args.search.now c.args.change) (sym c.proposed-proposal.ensures.proposal) few in
-    let laid = c.proposed-proposal.ensures.reads in
-    let read = c.improving.ensures.reads in
-    record { kept = omega (arith, laid.kept, read.kept); most = omega (arith, laid.most, read.most, most) }
+    let s = c.args.search.now in
+    let few = no-more-reads s c.args.change in
+    let read = subst (λ (lists : NewLists). c.improving_gain.new.reads ≤ c.args.reads.now + parts.improve_reads s lists) c.lists_of.ensures c.improving_gain.ensures.reads.most in
+    record { kept = c.improving_gain.ensures.reads.kept; most = omega (arith, few, read) }

@@ -1,0 +1,6 @@
+//! What moves of reloads would change.
+#![tactic(auto)]
+
+mod removing;
+
+pub use removing::reload_out;

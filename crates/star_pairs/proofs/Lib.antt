@@ -1,0 +1,4 @@
+pub mod BestLaws
+pub mod BestSwaps
+pub mod SplitLists
+pub mod TurnChanges

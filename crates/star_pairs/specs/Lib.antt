@@ -1,0 +1,2 @@
+pub mod BestPairs
+pub mod inside
