@@ -1,6 +1,2 @@
-pub mod DrawnKeys
 pub mod FoundPlans
-pub mod GroupMarks
 pub mod OrderedPlaces
-pub mod RandomPlans
-pub mod WalkSteps

@@ -3,7 +3,6 @@
 
 mod descent;
 mod plan_cost;
-pub mod random_plan;
 mod search;
 
 pub use search::{Found, early_search};

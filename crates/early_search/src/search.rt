@@ -2,15 +2,15 @@
 ghost use Rattle.std.specs.Prelude.{◌≡◌, IfOk, IsTrue, map, option_map};
 ghost use Rattle.routing_model.specs.Best.{IsFeasibleBest};
 ghost use Rattle.routing_model.specs.Lawful.{is_lawful};
-ghost use Rattle.search_model.specs.Kinds.{exchange_kinds};
+ghost use Rattle.search_model.specs.Kinds.{all_kinds};
 ghost use Rattle.command_model.specs.EarlySearch.{early_search, found_with, found_with_two};
 ghost use Rattle.early_search.specs.Found.{IsFoundAs, is_better_cost};
 
 use crate::descent::random_descent;
 use crate::plan_cost::cost_if_feasible;
-use crate::random_plan::random_solution;
 use move_core::{Kit, Operator};
 use problem_data::{NoMemory, ProblemData, Reads, Solution, Steps};
+use random_plans::random_solution;
 use std::alloc::Global;
 use std::thread::Threads;
 use vrp_num::Xor128;
@@ -83,7 +83,7 @@ fn found_with_two(
 /// descended by the kit's moves, in a random order of the clients. The best is the feasible one of less cost, the first on a tie. At
 /// most one iteration is done.
 ///
-/// Condition: the kit's kinds are the nine exchanges in order; they stay. Refused only where memory runs out.
+/// Condition: the kit has an operator of each kind, in order; they stay. Refused only where memory runs out.
 pub fn early_search<R: Threads + Sync>(
     rt: &R,
     alloc: Global,
@@ -92,8 +92,8 @@ pub fn early_search<R: Threads + Sync>(
     iterations: u32,
     kit: &mut Kit,
 ) -> Result<Found, NoMemory>
-    requires kinds { map kind_of kit.old.items ≡ exchange_kinds }
-    ensures kinds { map kind_of kit.new.items ≡ exchange_kinds }
+    requires kinds { map kind_of kit.old.items ≡ all_kinds }
+    ensures kinds { map kind_of kit.new.items ≡ all_kinds }
     ensures found { IfOk result (IsFoundAs (early_search seed iterations given.now)) }
     ensures feasible { IsFeasibleBest given.now (early_search seed iterations given.now).best }
 {

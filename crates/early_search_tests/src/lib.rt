@@ -2,8 +2,6 @@
 #![tactic(auto)]
 
 #[cfg(test)]
-mod random_plan;
-#[cfg(test)]
 mod sample;
 #[cfg(test)]
 mod search;

@@ -12,9 +12,10 @@ use Rattle.search_model.specs.Search.{is_of_kind, moves_of_kind}
 use Rattle.gain_model.specs.Operators.{bettered}
 use Rattle.move_core.specs.Searches.{SearchState}
 use Rattle.move_core.specs.declared.tally.Tally.{Tally}
+use Rattle.descent_memory.specs.Memories.{IsMemoryOf, MemoryState, last_count}
+use Rattle.descent_memory.specs.Touching.{Follows, IsUntouched}
 use Rattle.local_search.specs.Counts.{RoseBy, RoseTogether, all_applied, all_tried}
-use Rattle.local_search.specs.inside.Memories.{Follows, IsUntouched, MemoryState, last_count}
-use Rattle.local_search.specs.inside.Stages.{IsMemoryOf, IsStage, Tried, moves_of, stage_of}
+use Rattle.local_search.specs.inside.Stages.{IsStage, Tried, moves_of, stage_of}
 use Rattle.local_search.proofs.BetterPlans.{better}
 use Rattle.local_search.proofs.Rests.{both_all, own_rest, rests_stay}
 use Rattle.local_search.proofs.Tries.{no_moves, no_moves_of, rests_with}
@@ -27,7 +28,7 @@ module _ (p : Problem) (w : Weights) (kinds : List Kind) (each : Bool) (c : Cand
   counted_only : (tried : ℕ) → RoseBy 1 m.tried tried → bettered p w s.routes c ≡ None → all_applied us ≡ all_applied ts →
       Tried p w kinds each (c ∷ []) (stage_of s m ts) (stage_of s (record m { tried = tried }) us)
   counted_only tried r e same = record {
-    stage = record { problem = at.problem; weights = at.weights; grouped = at.grouped; lawful = at.lawful; memory = record { counted = at.memory.counted; moments = at.memory.moments; clients = at.memory.clients; types = at.memory.types; as_many = at.memory.as_many; unused = at.memory.unused } };
+    stage = record { problem = at.problem; weights = at.weights; grouped = at.grouped; lawful = at.lawful; memory = record { counted = at.memory.counted; moments = at.memory.moments; pairs = at.memory.pairs; clients = at.memory.clients; types = at.memory.types; lists = at.memory.lists; as_many = at.memory.as_many; unused = at.memory.unused } };
     routes = ap (λ (o : Option Routes). unwrap_or o s.routes) (sym e);
     asked = 1;
     few = omega arith;

@@ -18,9 +18,10 @@ use Rattle.search_model.specs.Search.{after_moves, is_of_kind, moves_of_kind, ro
 use Rattle.search_model.proofs.DescentLaws.{after_all-append, after_all-taken, after_pass-cases, busy-pass, descent-moves, passes-busy, passes-idle}
 use Rattle.move_core.specs.Searches.{SearchState}
 use Rattle.move_core.specs.declared.tally.Tally.{Tally}
+use Rattle.descent_memory.specs.Memories.{IsFresh}
 use Rattle.local_search.specs.Counts.{RoseBy, RoseTogether, all_applied, all_tried}
 use Rattle.local_search.specs.Descents.{Descends, StopsAfter}
-use Rattle.local_search.specs.inside.Stages.{Goes, IsFresh, IsStage, Stage, Stopped, Tried, Went, moves_of, plan_after, tries_of}
+use Rattle.local_search.specs.inside.Stages.{Goes, IsStage, Stage, Stopped, Tried, Went, moves_of, plan_after, tries_of}
 use Rattle.local_search.proofs.JoinedTries.{next, tries-append}
 use Rattle.local_search.proofs.Rises.{rose_both, rose_not, together_both, together_none}
 
@@ -133,9 +134,9 @@ module _ (p : Problem) (w : Weights) where
           (went_both (length cs) (tries_of p w cs a.search.routes) (route_tries p w cs b.search.routes) a b c (went_pass true (length cs) cs a b f (let all = f.all refl in omega (arith, all))) g)
 
       -- what a descent gives
-      pub descends : (candidates : List Candidate) (a b : Stage) (old : List Tally) (tally : Tally) → candidates ≡ cs → IsFresh p a.search.routes a.memory → a.tallies ≡ old → tally.tried ≡ b.memory.tried → tally.applied ≡ b.memory.clock →
-          Went p w kinds (length cs) (route_tries p w cs a.search.routes) a b → Descends p w kinds candidates a.search.routes b.search.routes old b.tallies tally
-      descends candidates a b old tally kept fresh same tried applied f = subst (λ (ds : List Candidate). Descends p w kinds ds a.search.routes b.search.routes old b.tallies tally) (sym kept) (record {
+      pub descends : (a b : Stage) (old : List Tally) (tally : Tally) → IsFresh p a.search.routes a.memory → a.tallies ≡ old → tally.tried ≡ b.memory.tried → tally.applied ≡ b.memory.clock →
+          Went p w kinds (length cs) (route_tries p w cs a.search.routes) a b → Descends p w kinds cs a.search.routes b.search.routes old b.tallies tally
+      descends a b old tally fresh same tried applied f = record {
         routes = f.routes ∙ descent-moves (moved p w) (solution_cost p w) cs a.search.routes;
         moves = applied ∙ risen_from (length (filter is_taken (route_tries p w cs a.search.routes))) a.memory.clock b.memory.clock fresh.clock f.clock;
         asked = f.asked;
@@ -144,7 +145,7 @@ module _ (p : Problem) (w : Weights) where
         tries = tried ∙ risen_from f.asked a.memory.tried b.memory.tried fresh.tried f.tried;
         rose = subst (λ (ts : List Tally). RoseTogether f.asked (all_tried ts) (all_tried b.tallies)) same f.rose;
         applied = λ k d l. subst (λ (ts : List Tally). RoseBy (moves_of_kind (slice_index_or kinds k d) (filter is_taken (route_tries p w cs a.search.routes))) (slice_index (all_applied ts) k) (slice_index (all_applied b.tallies) k)) same (f.applied k d l);
-      })
+      }
 
   module _ (cs : List Candidate) where
     -- the first moves of a descent, and of the rest of it

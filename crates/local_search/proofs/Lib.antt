@@ -1,4 +1,3 @@
-pub mod AfterMoves
 pub mod Beginning
 pub mod BetterPlans
 pub mod Candidate
@@ -10,10 +9,12 @@ pub mod Kits
 pub mod MadePlans
 pub mod NearPlaces
 pub mod Nested
+pub mod NoMoves
 pub mod Rests
 pub mod Rises
 pub mod Stops
 pub mod TakenMove
-pub mod Touching
 pub mod Tries
 pub mod TurnLists
+pub mod UntouchedPairs
+pub mod Visited

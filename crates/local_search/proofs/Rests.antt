@@ -10,7 +10,8 @@ use Rattle.search_model.specs.declared.candidate.Candidate.{Candidate}
 use Rattle.search_model.specs.Basis.{Part, basis, touches, touches_basis}
 use Rattle.gain_model.specs.Operators.{bettered}
 use Rattle.gain_model.proofs.UntouchedTries.{none_stays, own_touched}
-use Rattle.local_search.specs.inside.Memories.{Follows, IsUntouched, IsUntouchedPart, Touches}
+use Rattle.descent_memory.specs.Memories.{Touches}
+use Rattle.descent_memory.specs.Touching.{Follows, IsUntouched, IsUntouchedPart}
 
 -- facts of all items of two lists
 pub both_all : {X : Type 0} (P : X → Type 0) (xs ys : List X) → AllByRecursion P xs → AllByRecursion P ys → AllByRecursion P (xs ++ ys)

@@ -11,11 +11,11 @@ use Rattle.search_model.specs.declared.kind.Kind.{Kind}
 use Rattle.search_model.specs.Descent.{Try}
 use Rattle.search_model.specs.Search.{moves_of_kind}
 use Rattle.gain_model.specs.Operators.{bettered}
+use Rattle.descent_memory.specs.Touching.{IsUntouched}
 use Rattle.local_search.specs.Counts.{RoseBy, all_applied, all_tried}
-use Rattle.local_search.specs.inside.Memories.{IsUntouched}
 use Rattle.local_search.specs.inside.Stages.{IsStage, RestsSince, Stage, Tried, moves_of, plan_after}
 use Rattle.local_search.proofs.JoinedTries.{AllNothing, kind-append, moves-append, nothing-moves, nothing-plan, plan-append}
-use Rattle.local_search.proofs.Rests.{both_all, first_all, weaker_all}
+use Rattle.local_search.proofs.Rests.{both_all, first_all, second_all, weaker_all}
 use Rattle.local_search.proofs.Rises.{rose_both, rose_not, together_both, together_none}
 
 module _ (p : Problem) (w : Weights) (kinds : List Kind) where
@@ -26,6 +26,9 @@ module _ (p : Problem) (w : Weights) (kinds : List Kind) where
   -- fewer candidates rest, too
   pub rests_first : (moment : ℕ) (cs ds : List Candidate) (s : Stage) → RestsSince p w moment (cs ++ ds) s → RestsSince p w moment cs s
   rests_first moment cs ds s r = record { past = r.past; counted = r.counted; rests = first_all (Rests moment s) cs ds r.rests }
+
+  pub rests_second : (moment : ℕ) (cs ds : List Candidate) (s : Stage) → RestsSince p w moment (cs ++ ds) s → RestsSince p w moment ds s
+  rests_second moment cs ds s r = record { past = r.past; counted = r.counted; rests = second_all (Rests moment s) cs ds r.rests }
 
   -- candidates that give nothing rest
   pub rests_with : (moment : ℕ) (cs ds : List Candidate) (s : Stage) → RestsSince p w moment cs s → AllNothing p w ds s.search.routes → RestsSince p w moment (cs ++ ds) s

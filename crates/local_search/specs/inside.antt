@@ -1,5 +1,5 @@
 -- Words that only invariants, private contracts and proofs cite.
 pub mod Kits
-pub mod Memories
+pub mod Screens
 pub mod Stages
 pub mod Turns

@@ -4,10 +4,13 @@
 mod ask;
 mod descent;
 mod each_kind;
+mod each_type;
+mod kinds;
 mod kit;
-mod memory;
 mod moves;
+mod pair_turns;
 mod passes;
+mod screens;
 mod turns;
 
 pub use descent::descend;

@@ -1,21 +1,24 @@
 //! Turns of clients.
-ghost use Rattle.std.specs.Prelude.{◌≡◌, ◌<◌, List, length, map, All, slice_index, OnOk, OnErr};
+ghost use Rattle.std.specs.Prelude.{◌≡◌, ◌<◌, [], ◌∷◌, length, map, All, true, slice_index, OnOk, OnErr};
 ghost use Rattle.problem_data.specs.Places.{place_count};
-ghost use Rattle.search_model.specs.Kinds.{exchange_kinds};
+ghost use Rattle.search_model.specs.declared.candidate.Candidate.TheVariants.{Solo};
+ghost use Rattle.search_model.specs.Candidates.{client_candidates, neighbour_candidates};
+ghost use Rattle.search_model.specs.Kinds.{all_kinds};
 ghost use Rattle.search_model.specs.Neighbours.{near_list};
 ghost use Rattle.local_search.specs.Descents.{NamesPlaces};
-ghost use Rattle.local_search.specs.inside.Stages.{IsStage, Keeps, Stopped, Tried, stage_of};
-ghost use Rattle.local_search.specs.inside.Turns.{near_candidates, neighbour_candidates, turn_candidates, type_candidates, unused_candidates};
+ghost use Rattle.local_search.specs.inside.Stages.{IsStage, Keeps, RestsSince, Stopped, Tried, stage_of};
+ghost use Rattle.local_search.specs.inside.Turns.{alone_candidates, kind_at, near_candidates, type_candidates};
 
-use crate::each_kind::{try_neighbour, try_type};
-use crate::memory::Memory;
-use exchange_screens::look;
+use crate::each_kind::try_neighbour;
+use crate::each_type::try_type;
+use crate::kinds::kind_at;
+use crate::moves::try_candidate;
+use descent_memory::Memory;
 use granular::Neighbours;
-use move_core::{Operator, Search};
+use move_core::{Candidate, Operator, Search};
 use problem_data::{NoMemory, Reads, Steps};
 
-/// Tries a client and its neighbour at a place of its list; in a later pass only where one of them was touched since the client's
-/// last turn, and those kinds that a look doesn't tell to give nothing.
+/// Tries a client and its neighbour at a place of its list.
 fn neighbour_step(
     search: &mut Search<'_>,
     kit: &mut [Box<dyn Operator + Send>],
@@ -27,23 +30,19 @@ fn neighbour_step(
     reads: &mut Steps<Reads>,
 ) -> Result<(), NoMemory>
     requires at { at < length (near_list neighbours.now client) }
-    requires kinds { map kind_of kit.old ≡ exchange_kinds }
-    requires fits { All (λ b. fits b search.old.problem search.old.routes search.old.weights) kit.old }
-    requires stage { IsStage search.old.problem search.old.weights (stage_of search.old memory.old (map tally_of kit.old)) }
-    requires keeps { Keeps search.old.problem search.old.weights (near_candidates neighbours.now exchange_kinds) (stage_of search.old memory.old (map tally_of kit.old)) }
     requires client { client < place_count search.old.problem }
     requires neighbours { NamesPlaces search.old.problem neighbours.now }
-    ensures tried { OnOk result (Tried search.old.problem search.old.weights exchange_kinds each (neighbour_candidates exchange_kinds client (slice_index (near_list neighbours.now client) at)) (stage_of search.old memory.old (map tally_of kit.old)) (stage_of search.new memory.new (map tally_of kit.new))) }
+    requires kinds { map kind_of kit.old ≡ all_kinds }
+    requires fits { All (λ b. fits b search.old.problem search.old.routes search.old.weights) kit.old }
+    requires stage { IsStage search.old.problem search.old.weights (stage_of search.old memory.old (map tally_of kit.old)) }
+    requires rests { RestsSince search.old.problem search.old.weights (slice_index memory.old.moments.clients client) (neighbour_candidates client (slice_index (near_list neighbours.now client) at)) (stage_of search.old memory.old (map tally_of kit.old)) }
+    ensures tried { OnOk result (Tried search.old.problem search.old.weights all_kinds each (neighbour_candidates client (slice_index (near_list neighbours.now client) at)) (stage_of search.old memory.old (map tally_of kit.old)) (stage_of search.new memory.new (map tally_of kit.new))) }
     ensures moments { OnOk result (memory.new.moments ≡ memory.old.moments) }
     ensures fits { OnOk result (All (λ b. fits b search.new.problem search.new.routes search.new.weights) kit.new) }
-    ensures kinds { map kind_of kit.new ≡ exchange_kinds }
-    ensures stopped { OnErr result (Stopped search.old.problem search.old.weights (neighbour_candidates exchange_kinds client (slice_index (near_list neighbours.now client) at)) search.old search.new) }
+    ensures kinds { map kind_of kit.new ≡ all_kinds }
+    ensures stopped { OnErr result (Stopped search.old.problem search.old.weights (neighbour_candidates client (slice_index (near_list neighbours.now client) at)) search.old search.new) }
 {
     let neighbour = neighbours.of(client)[at];
-    if !each && memory.is_neighbour_untouched(client, neighbour) {
-        return Ok(());
-    }
-    look(search, client, neighbour, reads);
     try_neighbour(search, kit, memory, each, client, neighbour, reads)?;
     Ok(())
 }
@@ -58,51 +57,21 @@ fn neighbour_turn(
     client: u32,
     reads: &mut Steps<Reads>,
 ) -> Result<(), NoMemory>
-    requires kinds { map kind_of kit.old ≡ exchange_kinds }
-    requires fits { All (λ b. fits b search.old.problem search.old.routes search.old.weights) kit.old }
-    requires stage { IsStage search.old.problem search.old.weights (stage_of search.old memory.old (map tally_of kit.old)) }
-    requires keeps { Keeps search.old.problem search.old.weights (near_candidates neighbours.now exchange_kinds) (stage_of search.old memory.old (map tally_of kit.old)) }
     requires client { client < place_count search.old.problem }
     requires neighbours { NamesPlaces search.old.problem neighbours.now }
-    ensures tried { OnOk result (Tried search.old.problem search.old.weights exchange_kinds each (near_candidates neighbours.now exchange_kinds client) (stage_of search.old memory.old (map tally_of kit.old)) (stage_of search.new memory.new (map tally_of kit.new))) }
+    requires kinds { map kind_of kit.old ≡ all_kinds }
+    requires fits { All (λ b. fits b search.old.problem search.old.routes search.old.weights) kit.old }
+    requires stage { IsStage search.old.problem search.old.weights (stage_of search.old memory.old (map tally_of kit.old)) }
+    requires rests { RestsSince search.old.problem search.old.weights (slice_index memory.old.moments.clients client) (near_candidates neighbours.now client) (stage_of search.old memory.old (map tally_of kit.old)) }
+    ensures tried { OnOk result (Tried search.old.problem search.old.weights all_kinds each (near_candidates neighbours.now client) (stage_of search.old memory.old (map tally_of kit.old)) (stage_of search.new memory.new (map tally_of kit.new))) }
     ensures moments { OnOk result (memory.new.moments ≡ memory.old.moments) }
     ensures fits { OnOk result (All (λ b. fits b search.new.problem search.new.routes search.new.weights) kit.new) }
-    ensures kinds { map kind_of kit.new ≡ exchange_kinds }
-    ensures stopped { OnErr result (Stopped search.old.problem search.old.weights (near_candidates neighbours.now exchange_kinds client) search.old search.new) }
+    ensures kinds { map kind_of kit.new ≡ all_kinds }
+    ensures stopped { OnErr result (Stopped search.old.problem search.old.weights (near_candidates neighbours.now client) search.old search.new) }
 {
     for at in 0..neighbours.of(client).len() {
         neighbour_step(search, kit, memory, neighbours, each, client, at, reads)?;
     }
-    Ok(())
-}
-
-/// Tries a client and a vehicle type; in a later pass only where the client or the type's least unused vehicle was touched since
-/// the client's last turn.
-fn type_step(
-    search: &mut Search<'_>,
-    kit: &mut [Box<dyn Operator + Send>],
-    memory: &mut Memory,
-    each: bool,
-    client: u32,
-    vehicle_type: u32,
-    reads: &mut Steps<Reads>,
-) -> Result<(), NoMemory>
-    requires vehicle_type { vehicle_type < length search.old.problem.types }
-    requires kinds { map kind_of kit.old ≡ exchange_kinds }
-    requires fits { All (λ b. fits b search.old.problem search.old.routes search.old.weights) kit.old }
-    requires stage { IsStage search.old.problem search.old.weights (stage_of search.old memory.old (map tally_of kit.old)) }
-    requires keeps { Keeps search.old.problem search.old.weights (type_candidates search.old.problem exchange_kinds) (stage_of search.old memory.old (map tally_of kit.old)) }
-    requires client { client < place_count search.old.problem }
-    ensures tried { OnOk result (Tried search.old.problem search.old.weights exchange_kinds each (unused_candidates exchange_kinds client vehicle_type) (stage_of search.old memory.old (map tally_of kit.old)) (stage_of search.new memory.new (map tally_of kit.new))) }
-    ensures moments { OnOk result (memory.new.moments ≡ memory.old.moments) }
-    ensures fits { OnOk result (All (λ b. fits b search.new.problem search.new.routes search.new.weights) kit.new) }
-    ensures kinds { map kind_of kit.new ≡ exchange_kinds }
-    ensures stopped { OnErr result (Stopped search.old.problem search.old.weights (unused_candidates exchange_kinds client vehicle_type) search.old search.new) }
-{
-    if !each && memory.is_type_untouched(client, vehicle_type) {
-        return Ok(());
-    }
-    try_type(search, kit, memory, client, vehicle_type, reads)?;
     Ok(())
 }
 
@@ -115,25 +84,80 @@ fn type_turn(
     client: u32,
     reads: &mut Steps<Reads>,
 ) -> Result<(), NoMemory>
-    requires kinds { map kind_of kit.old ≡ exchange_kinds }
+    requires client { client < place_count search.old.problem }
+    requires kinds { map kind_of kit.old ≡ all_kinds }
     requires fits { All (λ b. fits b search.old.problem search.old.routes search.old.weights) kit.old }
     requires stage { IsStage search.old.problem search.old.weights (stage_of search.old memory.old (map tally_of kit.old)) }
-    requires keeps { Keeps search.old.problem search.old.weights (type_candidates search.old.problem exchange_kinds) (stage_of search.old memory.old (map tally_of kit.old)) }
-    requires client { client < place_count search.old.problem }
-    ensures tried { OnOk result (Tried search.old.problem search.old.weights exchange_kinds each (type_candidates search.old.problem exchange_kinds client) (stage_of search.old memory.old (map tally_of kit.old)) (stage_of search.new memory.new (map tally_of kit.new))) }
+    requires rests { RestsSince search.old.problem search.old.weights (slice_index memory.old.moments.clients client) (type_candidates search.old.problem client) (stage_of search.old memory.old (map tally_of kit.old)) }
+    ensures tried { OnOk result (Tried search.old.problem search.old.weights all_kinds each (type_candidates search.old.problem client) (stage_of search.old memory.old (map tally_of kit.old)) (stage_of search.new memory.new (map tally_of kit.new))) }
     ensures moments { OnOk result (memory.new.moments ≡ memory.old.moments) }
     ensures fits { OnOk result (All (λ b. fits b search.new.problem search.new.routes search.new.weights) kit.new) }
-    ensures kinds { map kind_of kit.new ≡ exchange_kinds }
-    ensures stopped { OnErr result (Stopped search.old.problem search.old.weights (type_candidates search.old.problem exchange_kinds client) search.old search.new) }
+    ensures kinds { map kind_of kit.new ≡ all_kinds }
+    ensures stopped { OnErr result (Stopped search.old.problem search.old.weights (type_candidates search.old.problem client) search.old search.new) }
 {
     search.soundness();
     for vehicle_type in 0..memory.types() as u32 {
-        type_step(search, kit, memory, each, client, vehicle_type, reads)?;
+        try_type(search, kit, memory, each, client, vehicle_type, reads)?;
     }
     Ok(())
 }
 
-/// The turn of a client: with its neighbours, and then with the vehicle types.
+/// Tries the kind at a place of the kit for a client alone.
+fn try_alone(
+    search: &mut Search<'_>,
+    kit: &mut [Box<dyn Operator + Send>],
+    memory: &mut Memory,
+    at: usize,
+    client: u32,
+    reads: &mut Steps<Reads>,
+) -> Result<(), NoMemory>
+    requires at { at < 18 }
+    requires kinds { map kind_of kit.old ≡ all_kinds }
+    requires fits { All (λ b. fits b search.old.problem search.old.routes search.old.weights) kit.old }
+    requires stage { IsStage search.old.problem search.old.weights (stage_of search.old memory.old (map tally_of kit.old)) }
+    ensures tried { OnOk result (Tried search.old.problem search.old.weights all_kinds true (Solo (kind_at at) client ∷ []) (stage_of search.old memory.old (map tally_of kit.old)) (stage_of search.new memory.new (map tally_of kit.new))) }
+    ensures moments { OnOk result (memory.new.moments ≡ memory.old.moments) }
+    ensures fits { OnOk result (All (λ b. fits b search.new.problem search.new.routes search.new.weights) kit.new) }
+    ensures kinds { map kind_of kit.new ≡ all_kinds }
+    ensures stopped { OnErr result (Stopped search.old.problem search.old.weights (Solo (kind_at at) client ∷ []) search.old search.new) }
+{
+    let candidate = Candidate::Solo {
+        kind: kind_at(at),
+        client,
+    };
+    try_candidate(search, kit, memory, at, candidate, reads)?;
+    Ok(())
+}
+
+/// Tries a client alone: without the reload behind it, and taken out; in a later pass only where it was touched since its last turn.
+fn alone_turn(
+    search: &mut Search<'_>,
+    kit: &mut [Box<dyn Operator + Send>],
+    memory: &mut Memory,
+    each: bool,
+    client: u32,
+    reads: &mut Steps<Reads>,
+) -> Result<(), NoMemory>
+    requires client { client < place_count search.old.problem }
+    requires kinds { map kind_of kit.old ≡ all_kinds }
+    requires fits { All (λ b. fits b search.old.problem search.old.routes search.old.weights) kit.old }
+    requires stage { IsStage search.old.problem search.old.weights (stage_of search.old memory.old (map tally_of kit.old)) }
+    requires rests { RestsSince search.old.problem search.old.weights (slice_index memory.old.moments.clients client) (alone_candidates client) (stage_of search.old memory.old (map tally_of kit.old)) }
+    ensures tried { OnOk result (Tried search.old.problem search.old.weights all_kinds each (alone_candidates client) (stage_of search.old memory.old (map tally_of kit.old)) (stage_of search.new memory.new (map tally_of kit.new))) }
+    ensures moments { OnOk result (memory.new.moments ≡ memory.old.moments) }
+    ensures fits { OnOk result (All (λ b. fits b search.new.problem search.new.routes search.new.weights) kit.new) }
+    ensures kinds { map kind_of kit.new ≡ all_kinds }
+    ensures stopped { OnErr result (Stopped search.old.problem search.old.weights (alone_candidates client) search.old search.new) }
+{
+    if !each && memory.is_client_untouched(client) {
+        return Ok(());
+    }
+    try_alone(search, kit, memory, 12, client, reads)?;
+    try_alone(search, kit, memory, 14, client, reads)?;
+    Ok(())
+}
+
+/// The turn of a client: with its neighbours, with the vehicle types, and alone.
 pub(crate) fn turn(
     search: &mut Search<'_>,
     kit: &mut [Box<dyn Operator + Send>],
@@ -143,21 +167,23 @@ pub(crate) fn turn(
     client: u32,
     reads: &mut Steps<Reads>,
 ) -> Result<(), NoMemory>
-    requires kinds { map kind_of kit.old ≡ exchange_kinds }
-    requires fits { All (λ b. fits b search.old.problem search.old.routes search.old.weights) kit.old }
-    requires stage { IsStage search.old.problem search.old.weights (stage_of search.old memory.old (map tally_of kit.old)) }
-    requires keeps { Keeps search.old.problem search.old.weights (turn_candidates search.old.problem neighbours.now exchange_kinds) (stage_of search.old memory.old (map tally_of kit.old)) }
     requires client { client < place_count search.old.problem }
     requires neighbours { NamesPlaces search.old.problem neighbours.now }
-    ensures tried { OnOk result (Tried search.old.problem search.old.weights exchange_kinds each (turn_candidates search.old.problem neighbours.now exchange_kinds client) (stage_of search.old memory.old (map tally_of kit.old)) (stage_of search.new memory.new (map tally_of kit.new))) }
-    ensures keeps { OnOk result (Keeps search.old.problem search.old.weights (turn_candidates search.old.problem neighbours.now exchange_kinds) (stage_of search.new memory.new (map tally_of kit.new))) }
+    requires kinds { map kind_of kit.old ≡ all_kinds }
+    requires fits { All (λ b. fits b search.old.problem search.old.routes search.old.weights) kit.old }
+    requires stage { IsStage search.old.problem search.old.weights (stage_of search.old memory.old (map tally_of kit.old)) }
+    requires keeps { Keeps search.old.problem search.old.weights (client_candidates search.old.problem neighbours.now) (stage_of search.old memory.old (map tally_of kit.old)) }
+    ensures tried { OnOk result (Tried search.old.problem search.old.weights all_kinds each (client_candidates search.old.problem neighbours.now client) (stage_of search.old memory.old (map tally_of kit.old)) (stage_of search.new memory.new (map tally_of kit.new))) }
+    ensures keeps { OnOk result (Keeps search.old.problem search.old.weights (client_candidates search.old.problem neighbours.now) (stage_of search.new memory.new (map tally_of kit.new))) }
+    ensures moments { OnOk result (memory.new.moments.pairs ≡ memory.old.moments.pairs) }
     ensures fits { OnOk result (All (λ b. fits b search.new.problem search.new.routes search.new.weights) kit.new) }
-    ensures kinds { map kind_of kit.new ≡ exchange_kinds }
-    ensures stopped { OnErr result (Stopped search.old.problem search.old.weights (turn_candidates search.old.problem neighbours.now exchange_kinds client) search.old search.new) }
+    ensures kinds { map kind_of kit.new ≡ all_kinds }
+    ensures stopped { OnErr result (Stopped search.old.problem search.old.weights (client_candidates search.old.problem neighbours.now client) search.old search.new) }
 {
     let moment = memory.moment();
     neighbour_turn(search, kit, memory, neighbours, each, client, reads)?;
     type_turn(search, kit, memory, each, client, reads)?;
+    alone_turn(search, kit, memory, each, client, reads)?;
     memory.finish(client, moment);
     Ok(())
 }

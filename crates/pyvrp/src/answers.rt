@@ -2,7 +2,7 @@
 ghost use Rattle.std.specs.Prelude.{◌≡◌, IfOk, IfSome, length, map};
 ghost use Rattle.problem_data.specs.Places.{vehicle_count};
 ghost use Rattle.problem_data.specs.Valid.{IsValid};
-ghost use Rattle.search_model.specs.Kinds.{exchange_kinds};
+ghost use Rattle.search_model.specs.Kinds.{all_kinds};
 ghost use Rattle.command_model.specs.EarlySearch.{early_search};
 ghost use Rattle.pyvrp.specs.inside.Report.{Tells, answer_with, plan_found, text_with};
 
@@ -38,7 +38,7 @@ fn answer_with(alloc: Global, problem: &Problem, found: &Found) -> Result<Answer
     })
 }
 
-/// Searches a problem. Conditions: the problem is valid, and the kit's kinds are the nine exchanges in order.
+/// Searches a problem. Conditions: the problem is valid, and the kit has an operator of each kind, in order.
 pub fn answer_of<R: Threads + Sync>(
     rt: &R,
     alloc: Global,
@@ -48,7 +48,7 @@ pub fn answer_of<R: Threads + Sync>(
     kit: &mut Kit,
 ) -> Result<Answer, NoMemory>
     requires valid { IsValid problem }
-    requires kinds { map kind_of kit.old.items ≡ exchange_kinds }
+    requires kinds { map kind_of kit.old.items ≡ all_kinds }
     ensures { IfOk result (Tells problem (early_search seed iterations problem)) }
 {
     let given = ProblemData::new(alloc, problem)?;

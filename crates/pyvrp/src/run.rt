@@ -3,7 +3,7 @@ ghost use Rattle.std.specs.Prelude.{◌≡◌, ◌≢◌, ◌≤◌, All, IfOk, 
 ghost use Rattle.outside_model.specs.Delivery.{Delivers, Effects};
 ghost use Rattle.outside_model.specs.Sinks.{HasFault, HoldsWhole, IsGiven, IsUntouched, sink_of};
 ghost use Rattle.batch_run.specs.Loads.{files_of};
-ghost use Rattle.search_model.specs.Kinds.{exchange_kinds};
+ghost use Rattle.search_model.specs.Kinds.{all_kinds};
 ghost use Rattle.command_model.specs.Words.{asked};
 ghost use Rattle.pyvrp.specs.inside.Asked.{shown};
 ghost use Rattle.pyvrp.specs.inside.Report.{IsRefusalOf};
@@ -64,7 +64,7 @@ fn outcome_of_bytes<R: Threads + Sync>(
     iterations: u32,
     kit: &mut Kit,
 ) -> Result<Outcome, NoMemory>
-    requires { map kind_of kit.old.items ≡ exchange_kinds }
+    requires { map kind_of kit.old.items ≡ all_kinds }
     ensures { IfOk result (ComesOfBytes seed iterations bytes.now) }
 {
     match read_instance(alloc, bytes, Rounding::Round) {
@@ -86,7 +86,7 @@ fn outcome_of_path<R: Threads + Sync, F: Files>(
     kit: &mut Kit,
     files: &mut F,
 ) -> Result<Outcome, NoMemory>
-    requires { map kind_of kit.old.items ≡ exchange_kinds }
+    requires { map kind_of kit.old.items ≡ all_kinds }
     ensures found { IfOk result (ComesOfPath seed iterations path.now
         (files_of (F.holding files.old) (F.holding files.new) (F.faults files.old) (F.faults files.new))) }
     ensures kept { F.holding files.new ≡ F.holding files.old }
@@ -119,7 +119,7 @@ fn texts_of_path<R: Threads + Sync, F: Files>(
     kit: &mut Kit,
     files: &mut F,
 ) -> Result<Texts, NoMemory>
-    requires { map kind_of kit.old.items ≡ exchange_kinds }
+    requires { map kind_of kit.old.items ≡ all_kinds }
     ensures found { IfOk result (HasTextsOf (shown asked.now)
         (files_of (F.holding files.old) (F.holding files.new) (F.faults files.old) (F.faults files.new))) }
     ensures kept { F.holding files.new ≡ F.holding files.old }
@@ -168,7 +168,7 @@ fn deliver<O: Sink, E: Sink>(texts: &Texts, out: &mut O, err: &mut E) -> u8
 /// The words are `--seed S --max_iterations N NAME`, N being 0 or 1. The instance is loaded from the files, read and searched; its
 /// plan and the table are put to `out`, and before that the line of its fault, if it has one, to `err`.
 ///
-/// Conditions: there are at least as many kits as words, and each kit's kinds are the nine exchanges in order. The first kit does the
+/// Conditions: there are at least as many kits as words, and each kit has an operator of each kind, in order. The first kit does the
 /// search; all are dropped at the end.
 ///
 /// The status is 2 where the words are wrong, 3 for want of memory (nothing was put then), 4 where an output failed, 1 where the
@@ -183,7 +183,7 @@ pub fn run_command<R: Threads + Sync, F: Files, O: Sink, E: Sink>(
     mut kits: Vec<Kit>,
 ) -> u8
     requires enough { length words.items ≤ length kits.items }
-    requires kinds { All (λ kit. map kind_of kit.items ≡ exchange_kinds) kits.items }
+    requires kinds { All (λ kit. map kind_of kit.items ≡ all_kinds) kits.items }
     ensures runs { result ≢ 3 → Runs (asked (map string_bytes words.items))
         (files_of (F.holding files.old) (F.holding files.new) (F.faults files.old) (F.faults files.new))
         (sink_of (O.written out.old) (O.written out.new) (O.faults out.old) (O.faults out.new))

@@ -1,4 +1,4 @@
-//! The command as the program runs it: with a kit of the exchanges for each word.
+//! The command as the program runs it: with a kit of operators for each word.
 #![tactic(auto)]
 
 mod program;

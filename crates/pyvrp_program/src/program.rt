@@ -2,23 +2,26 @@
 ghost use Rattle.std.specs.Prelude.{◌≡◌, ◌≢◌, ◌≤◌, All, IfOk, OnErr, length, map, string_bytes};
 ghost use Rattle.outside_model.specs.Sinks.{IsUntouched, sink_of};
 ghost use Rattle.batch_run.specs.Loads.{files_of};
-ghost use Rattle.search_model.specs.Kinds.{exchange_kinds};
+ghost use Rattle.search_model.specs.Kinds.{all_kinds};
 ghost use Rattle.command_model.specs.Words.{asked};
 ghost use Rattle.exchange_screens.specs.Exchanges.{exchange_kind};
 ghost use Rattle.pyvrp.specs.Run.{Runs};
 
 use batch_run::{Files, Sink};
+use depot_moves::{DepotAfter, DepotBefore};
+use group_moves::{Insert, Remove, Replace};
 use move_core::{Kit, Operator};
-use node_moves::Exchange;
+use node_moves::{Exchange, RemoveDepot, SwapTails};
 use problem_data::NoMemory;
 use pyvrp::{NO_MEMORY, run_command};
+use route_moves::{SwapRoutes, SwapStar};
 use std::alloc::Global;
 use std::thread::Threads;
 
 /// Says what kits for so many words are, and does nothing.
 fn are_kits_for(_kits: &[Kit], _words: usize)
     requires enough { _words ≤ length _kits.now }
-    requires kinds { All (λ kit. map kind_of kit.items ≡ exchange_kinds) _kits.now }
+    requires kinds { All (λ kit. map kind_of kit.items ≡ all_kinds) _kits.now }
 {}
 
 /// Runs the command with as many kits as there are words; refused where there is no memory for the kits, and then nothing was done.
@@ -50,7 +53,7 @@ fn run<R: Threads + Sync, F: Files, O: Sink, E: Sink>(
     };
     let mut kits: Vec<Kit> = Vec::new(alloc);
     for _ in 0..words.len() {
-        let operators = [
+        let operators: [Box<dyn Operator + Send>; 18] = [
             boxed(Exchange::new(1, 0))?,
             boxed(Exchange::new(2, 0))?,
             boxed(Exchange::new(3, 0))?,
@@ -60,6 +63,15 @@ fn run<R: Threads + Sync, F: Files, O: Sink, E: Sink>(
             boxed(Exchange::new(2, 2))?,
             boxed(Exchange::new(3, 2))?,
             boxed(Exchange::new(3, 3))?,
+            Box::new(alloc, SwapTails::new())?,
+            Box::new(alloc, DepotBefore::new())?,
+            Box::new(alloc, DepotAfter::new())?,
+            Box::new(alloc, RemoveDepot::new())?,
+            Box::new(alloc, Insert::new())?,
+            Box::new(alloc, Remove::new())?,
+            Box::new(alloc, Replace::new())?,
+            Box::new(alloc, SwapRoutes::new())?,
+            Box::new(alloc, SwapStar::new(alloc))?,
         ];
         kits.push(Vec::from_array(alloc, operators)?)?;
     }
@@ -67,7 +79,7 @@ fn run<R: Threads + Sync, F: Files, O: Sink, E: Sink>(
     Ok(run_command(rt, alloc, words, files, out, err, kits))
 }
 
-/// Runs the command with a kit of the nine exchanges for each word. See `run_command`, whose clauses these are.
+/// Runs the command with a kit of an operator of each kind for each word. See `run_command`, whose clauses these are.
 ///
 /// The status is 3 where there is no memory for the kits, too.
 pub fn run_program<R: Threads + Sync, F: Files, O: Sink, E: Sink>(

@@ -2,12 +2,12 @@
 ghost use Rattle.std.specs.Prelude.{IfOk, IsTrue};
 ghost use Rattle.routing_model.specs.Lawful.{is_lawful};
 
-use crate::descents::{answer_descent, order_of};
+use crate::descents::{answer_descent, answer_tries, order_of};
 use crate::moves::{answer_move, move_of};
-use crate::plans::plan_of;
 use crate::session::Session;
 use batch_run::Files;
 use penalty_cost::{is_lawful, is_plan};
+use plan_texts::plan_of;
 use problem_data::{NoMemory, ProblemData, Reads, Solution, Steps};
 use std::alloc::Global;
 use std::str;
@@ -55,20 +55,23 @@ fn about_move(
     answer_move(alloc, &session.given, &session.plan, asked, reads)
 }
 
-/// The answer about a descent of the plan.
+/// The answer about a descent of the plan: where it ends, or how many candidates it tries.
 fn about_descent<R: Threads + Sync>(
     rt: &R,
     alloc: Global,
     session: &Session,
-    text: &str,
+    question: (&str, &str),
     reads: &mut Steps<Reads>,
 ) -> Result<String, NoMemory> {
     let given = &session.given;
-    let Some(order) = order_of(alloc, given, text)? else {
+    let Some(order) = order_of(alloc, given, question.1)? else {
         return wrong(alloc);
     };
     if !is_lawful_plan(alloc, given, &session.plan)? {
         return wrong(alloc);
+    }
+    if question.0 == "tries" {
+        return answer_tries(rt, alloc, given, &session.plan, order.as_slice(), reads);
     }
     match answer_descent(rt, alloc, given, &session.plan, order.as_slice(), reads)? {
         Some(answer) => Ok(answer),
@@ -87,7 +90,7 @@ fn answer_about<R: Threads + Sync>(
     match question.0 {
         "sol" => take_plan(alloc, session, question.1),
         "move" => about_move(alloc, session, question.1, reads),
-        "descend" => about_descent(rt, alloc, session, question.1, reads),
+        "descend" | "tries" => about_descent(rt, alloc, session, question, reads),
         _ => wrong(alloc),
     }
 }
@@ -118,10 +121,12 @@ fn answer_of<R: Threads + Sync, F: Files>(
 ///
 /// - `instance FILE`: the file whose problem the following questions are about;
 /// - `sol LISTS`: the plan that they are about: for each vehicle its visits, lists separated by `;`, a reload as `|DEPOT`;
-/// - `move KIND CLIENT after CLIENT`, `move KIND CLIENT start CLIENT`, `move KIND CLIENT empty TYPE`: the gain of a move of a kind
-///   from 1 to 9, where it lowers the cost, and the lists that it makes;
+/// - `move KIND CLIENT after CLIENT`, `move KIND CLIENT start CLIENT`, `move KIND CLIENT empty TYPE`, `move KIND CLIENT solo`,
+///   `move KIND routes VEHICLE VEHICLE`: the gain of a move, where it lowers the cost, and the lists that it makes; kinds are counted
+///   from 1, types and vehicles from 0;
 /// - `descend CLIENTS`: the lists that the descent in an order of the clients ends with, their cost, the passes that a plain descent
-///   takes to the same lists, and the moves taken of each kind.
+///   takes to the same lists, and the moves taken of each kind;
+/// - `tries CLIENTS`: how many candidates the descent in an order of the clients tries.
 ///
 /// An instance has no answer. What can't be answered is answered `wrong`, and so is a descent that ends with other lists than a plain
 /// one. Refused only where memory runs out.

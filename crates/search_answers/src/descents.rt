@@ -1,17 +1,22 @@
 //! Questions about descents.
-ghost use Rattle.std.specs.Prelude.{◌≡◌, IfOk, IfSome, IsTrue};
+ghost use Rattle.std.specs.Prelude.{◌≡◌, IfOk, IfSome, IsTrue, map};
 ghost use Rattle.routing_model.specs.Lawful.{is_lawful};
+ghost use Rattle.search_model.specs.Kinds.{all_kinds};
 ghost use Rattle.exchange_screens.specs.Exchanges.{exchange_kind};
 ghost use Rattle.local_search.specs.Descents.{NamesClients};
 
+use crate::candidates::candidates_of;
 use crate::moves::WEIGHTS;
 use crate::plain_descent::plain_descent;
-use crate::plans::push_plan;
+use depot_moves::{DepotAfter, DepotBefore};
 use granular::{Neighbours, Proximity, neighbours};
+use group_moves::{Insert, Remove, Replace};
 use local_search::descend;
-use move_core::{Kit, Operator, Search};
-use node_moves::Exchange;
+use move_core::{Kit, Operator, Search, Tally};
+use node_moves::{Exchange, RemoveDepot, SwapTails};
+use plan_texts::push_plan;
 use problem_data::{NoMemory, ProblemData, Reads, Solution, Steps};
+use route_moves::{SwapRoutes, SwapStar};
 use std::alloc::{AllocError, Global};
 use std::fmt::Write;
 use std::thread::Threads;
@@ -47,55 +52,100 @@ pub(crate) fn order_of(
     Ok(Some(order))
 }
 
-/// Appends the number of moves taken of each kind.
-fn push_taken(text: &mut String, kit: &Kit) -> Result<(), AllocError> {
-    for operator in kit.iter() {
-        let taken = operator.tally().applied;
-        write!(text, " {taken}")?;
-    }
-    Ok(())
+/// What a descent over a kit ends with: the lists as they are printed, their cost, and the tally of each kind in order.
+#[derive(Drop)]
+struct Outcome {
+    lists: String,
+    cost: i128,
+    tallies: Vec<Tally>,
 }
 
-/// The number of passes of a plain descent, and the lists that it ends with; none where it doesn't end. Condition: the plan is lawful.
-fn plain_lists(
+/// What a search and a kit hold.
+fn held_by(alloc: Global, search: &Search<'_>, kit: &Kit) -> Result<Outcome, NoMemory> {
+    let mut lists = String::new(alloc);
+    push_plan(&mut lists, &search.solution()?)?;
+    let mut tallies = Vec::new(alloc);
+    for operator in kit.iter() {
+        tallies.push(operator.tally())?;
+    }
+    Ok(Outcome {
+        lists,
+        cost: search.cost(),
+        tallies,
+    })
+}
+
+/// Says that a kit has an operator of each kind, in order, and does nothing.
+fn is_kit(_kit: &Kit)
+    requires { map kind_of _kit.now.items ≡ all_kinds }
+{}
+
+/// What the descent over a kit of all kinds ends with. Conditions: the plan is lawful, and the order names places.
+fn descended<R: Threads + Sync>(
+    rt: &R,
     alloc: Global,
     given: &ProblemData,
     plan: &Solution,
-    near: &Neighbours,
+    order: &[u32],
+    reads: &mut Steps<Reads>,
+) -> Result<Outcome, NoMemory>
+    requires lawful { IsTrue (is_lawful given.now plan.now.routes) }
+    requires order { NamesClients given.now order.now }
+{
+    let near = neighbours(rt, alloc, given, NEIGHBOURS, PROXIMITY)?;
+    let boxed = |exchange: Exchange| -> Result<Box<dyn Operator + Send>, NoMemory>
+        ensures { IfOk result (λ operator. kind_of operator ≡ exchange_kind exchange.n exchange.m) }
+    {
+        let operator: Box<dyn Operator + Send> = Box::new(alloc, exchange)?;
+        Ok(operator)
+    };
+    let operators: [Box<dyn Operator + Send>; 18] = [
+        boxed(Exchange::new(1, 0))?,
+        boxed(Exchange::new(2, 0))?,
+        boxed(Exchange::new(3, 0))?,
+        boxed(Exchange::new(1, 1))?,
+        boxed(Exchange::new(2, 1))?,
+        boxed(Exchange::new(3, 1))?,
+        boxed(Exchange::new(2, 2))?,
+        boxed(Exchange::new(3, 2))?,
+        boxed(Exchange::new(3, 3))?,
+        Box::new(alloc, SwapTails::new())?,
+        Box::new(alloc, DepotBefore::new())?,
+        Box::new(alloc, DepotAfter::new())?,
+        Box::new(alloc, RemoveDepot::new())?,
+        Box::new(alloc, Insert::new())?,
+        Box::new(alloc, Remove::new())?,
+        Box::new(alloc, Replace::new())?,
+        Box::new(alloc, SwapRoutes::new())?,
+        Box::new(alloc, SwapStar::new(alloc))?,
+    ];
+    let mut kit = Vec::from_array(alloc, operators)?;
+    is_kit(&kit);
+    let mut search = Search::new(alloc, given, plan, WEIGHTS, reads)?;
+    descend(&mut search, &mut kit, &near, order, reads)?;
+    held_by(alloc, &search, &kit)
+}
+
+/// The number of passes of a plain descent, and the lists that it ends with; none where it doesn't end. Condition: the plan is lawful.
+fn plain_lists<R: Threads + Sync>(
+    rt: &R,
+    alloc: Global,
+    given: &ProblemData,
+    plan: &Solution,
     order: &[u32],
     reads: &mut Steps<Reads>,
 ) -> Result<Option<(u32, String)>, NoMemory>
     requires { IsTrue (is_lawful given.now plan.now.routes) }
 {
+    let near = neighbours(rt, alloc, given, NEIGHBOURS, PROXIMITY)?;
+    let candidates = candidates_of(alloc, given, &near, order)?;
     let mut search = Search::new(alloc, given, plan, WEIGHTS, reads)?;
-    let Some(passes) = plain_descent(&mut search, near, order, reads)? else {
+    let Some(passes) = plain_descent(alloc, &mut search, candidates.as_slice(), reads)? else {
         return Ok(None);
     };
     let mut lists = String::new(alloc);
     push_plan(&mut lists, &search.solution()?)?;
     Ok(Some((passes, lists)))
-}
-
-/// What is told of a descent that has ended; none where a plain one ended with other lists.
-fn told(
-    alloc: Global,
-    search: &Search<'_>,
-    kit: &Kit,
-    plain: Option<(u32, String)>,
-) -> Result<Option<String>, NoMemory> {
-    let Some((passes, plain_lists)) = plain else {
-        return Ok(None);
-    };
-    let mut lists = String::new(alloc);
-    push_plan(&mut lists, &search.solution()?)?;
-    if lists != plain_lists {
-        return Ok(None);
-    }
-    let cost = search.cost();
-    let mut text = format!(in alloc; "lists {lists}\ncost {cost}\npasses {passes}\ntaken")?;
-    push_taken(&mut text, kit)?;
-    text.push('\n')?;
-    Ok(Some(text))
 }
 
 /// The lists that a descent ends with, their cost, the passes of a plain descent and the moves taken of each kind; none where a plain
@@ -111,27 +161,44 @@ pub(crate) fn answer_descent<R: Threads + Sync>(
     requires lawful { IsTrue (is_lawful given.now plan.now.routes) }
     requires order { NamesClients given.now order.now }
 {
-    let near = neighbours(rt, alloc, given, NEIGHBOURS, PROXIMITY)?;
-    let plain = plain_lists(alloc, given, plan, &near, order, reads)?;
-    let boxed = |exchange: Exchange| -> Result<Box<dyn Operator + Send>, NoMemory>
-        ensures { IfOk result (λ operator. kind_of operator ≡ exchange_kind exchange.n exchange.m) }
-    {
-        let operator: Box<dyn Operator + Send> = Box::new(alloc, exchange)?;
-        Ok(operator)
+    let Some((passes, plain_lists)) = plain_lists(rt, alloc, given, plan, order, reads)? else {
+        return Ok(None);
     };
-    let operators = [
-        boxed(Exchange::new(1, 0))?,
-        boxed(Exchange::new(2, 0))?,
-        boxed(Exchange::new(3, 0))?,
-        boxed(Exchange::new(1, 1))?,
-        boxed(Exchange::new(2, 1))?,
-        boxed(Exchange::new(3, 1))?,
-        boxed(Exchange::new(2, 2))?,
-        boxed(Exchange::new(3, 2))?,
-        boxed(Exchange::new(3, 3))?,
-    ];
-    let mut kit = Vec::from_array(alloc, operators)?;
-    let mut search = Search::new(alloc, given, plan, WEIGHTS, reads)?;
-    descend(&mut search, &mut kit, &near, order, reads)?;
-    told(alloc, &search, &kit, plain)
+    let Outcome {
+        lists,
+        cost,
+        tallies,
+    } = descended(rt, alloc, given, plan, order, reads)?;
+    if lists != plain_lists {
+        return Ok(None);
+    }
+    let mut text = format!(in alloc; "lists {lists}\ncost {cost}\npasses {passes}\ntaken")?;
+    for tally in tallies.iter() {
+        let taken = tally.applied;
+        write!(text, " {taken}")?;
+    }
+    text.push('\n')?;
+    Ok(Some(text))
+}
+
+/// How many candidates a descent tries. Conditions: the plan is lawful, and the order names places.
+pub(crate) fn answer_tries<R: Threads + Sync>(
+    rt: &R,
+    alloc: Global,
+    given: &ProblemData,
+    plan: &Solution,
+    order: &[u32],
+    reads: &mut Steps<Reads>,
+) -> Result<String, NoMemory>
+    requires lawful { IsTrue (is_lawful given.now plan.now.routes) }
+    requires order { NamesClients given.now order.now }
+{
+    let mut tries: u64 = 0;
+    for tally in descended(rt, alloc, given, plan, order, reads)?
+        .tallies
+        .iter()
+    {
+        tries = tries.saturating_add(tally.tried);
+    }
+    Ok(format!(in alloc; "tried {tries}\n")?)
 }

@@ -2,10 +2,11 @@
 #![tactic(auto)]
 
 mod answers;
+mod candidates;
 mod descents;
+mod gains;
 mod moves;
 mod plain_descent;
-mod plans;
 mod session;
 
 pub use answers::answers_of;

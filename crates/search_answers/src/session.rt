@@ -1,6 +1,6 @@
 //! What the questions are about.
-use crate::plans::plan_of;
 use batch_run::Files;
+use plan_texts::plan_of;
 use problem_data::{NoMemory, ProblemData, Solution};
 use std::alloc::Global;
 use vrp_num::Rounding;

@@ -2,7 +2,7 @@
 use Rattle.std.specs.Prelude.{◌≡◌, ℕ, ◌+◌, ◌<◌, ◌≤◌, IsTrue, Bool, List, ◌++◌, length, filter, slice_index, slice_index_or, Option, None}
 use Rattle.std.specs.List.{AllByRecursion}
 use Rattle.problem_data.specs.declared.problem.Problem.{Problem}
-use Rattle.problem_data.specs.Places.{place_count}
+use Rattle.problem_data.specs.Places.{place_count, vehicle_count}
 use Rattle.problem_data.specs.Reads.{OneMore}
 use Rattle.problem_data.specs.Valid.{IsGroupedAsListed}
 use Rattle.routing_model.specs.declared.weights.Weights.{Weights}
@@ -12,12 +12,14 @@ use Rattle.routing_model.specs.Routes.{Routes}
 use Rattle.search_model.specs.declared.candidate.Candidate.{Candidate}
 use Rattle.search_model.specs.declared.kind.Kind.{Kind}
 use Rattle.search_model.specs.Descent.{Try, after_all, after_pass, is_taken, pass_tries}
-use Rattle.search_model.specs.Edits.{unused_vehicle}
 use Rattle.search_model.specs.Moves.{moved}
 use Rattle.search_model.specs.Search.{moves_of_kind, route_tries}
 use Rattle.gain_model.specs.Operators.{bettered}
 use Rattle.local_search.specs.Counts.{RoseBy, RoseTogether, all_applied, all_tried}
-use Rattle.local_search.specs.inside.Memories.{MemoryState, IsUntouched, after_move, last_count}
+use Rattle.descent_memory.specs.Memories.{IsMemoryOf, MemoryState, last_count}
+use Rattle.descent_memory.specs.Pairs.{pair_place}
+use Rattle.descent_memory.specs.Touching.{IsUntouched, after_move}
+use Rattle.local_search.specs.inside.Turns.{pair_candidates}
 use Rattle.move_core.specs.Searches.{SearchState}
 use Rattle.move_core.specs.declared.tally.Tally.{Tally}
 
@@ -41,22 +43,6 @@ tries_of p w candidates routes = pass_tries (moved p w) (solution_cost p w) cand
 abbrev pub moves_of : Problem → Weights → List Candidate → Routes → List (Try Routes Candidate)
 moves_of p w candidates routes = filter is_taken (tries_of p w candidates routes)
 
--- the memory has a number for each place and for each type, and knows the least unused vehicle of each
-pub record IsMemoryOf (p : Problem) (routes : Routes) (memory : MemoryState) : Type 0 where
-  pub counted : memory.clock ≤ last_count
-  pub moments : length memory.moments ≡ place_count p
-  pub clients : length memory.touches.clients ≡ place_count p
-  pub types : length memory.touches.types ≡ length p.types
-  pub as_many : length memory.unused ≡ length p.types
-  pub unused : (type : ℕ) → type < length p.types → slice_index_or memory.unused type None ≡ unused_vehicle p routes type
-
--- a memory of no turn, no move and no try
-pub record IsFresh (p : Problem) (routes : Routes) (memory : MemoryState) : Type 0 where
-  pub memory_of : IsMemoryOf p routes memory
-  pub clock : memory.clock ≡ 0
-  pub tried : memory.tried ≡ 0
-  pub moments : (client : ℕ) → slice_index memory.moments client ≡ 0
-
 -- a stage of a descent with this problem and these weights
 pub record IsStage (p : Problem) (w : Weights) (stage : Stage) : Type 0 where
   pub problem : stage.search.problem ≡ p
@@ -73,7 +59,15 @@ pub record RestsSince (p : Problem) (w : Weights) (moment : ℕ) (candidates : L
 
 -- so it is with each client's turn since the client's moment
 abbrev pub Keeps : Problem → Weights → (ℕ → List Candidate) → Stage → Type 0
-Keeps p w turn stage = (client : ℕ) → client < place_count p → RestsSince p w (slice_index stage.memory.moments client) (turn client) stage
+Keeps p w turn stage = (client : ℕ) → client < place_count p → RestsSince p w (slice_index stage.memory.moments.clients client) (turn client) stage
+
+-- the moment of a pair of vehicles, and so it is with each pair's turn since the pair's moment
+abbrev pub moment_of_pair : Problem → MemoryState → ℕ → ℕ → ℕ
+moment_of_pair p memory first second = slice_index memory.moments.pairs (pair_place (vehicle_count p) first second)
+
+abbrev pub KeepsPairs : Problem → Weights → Stage → Type 0
+KeepsPairs p w stage =
+    (first second : ℕ) → first < second → second < vehicle_count p → RestsSince p w (moment_of_pair p stage.memory first second) (pair_candidates first second) stage
 
 -- What comes of trying some candidates, each of them or, in a later pass, those that aren't known to give nothing: how many were
 -- asked for, how the counts rose, and the plan after them. What rests since a moment still does, and so do these candidates if the

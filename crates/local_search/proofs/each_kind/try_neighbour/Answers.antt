@@ -1,35 +1,20 @@
-use Rattle.std.proofs.Common.{◌∙◌, ◌<◌, ◌≤◌, arith, refl, length}
-use Rattle.search_model.specs.declared.kind.Kind.TheVariants.{Exchange10}
-use Rattle.search_model.specs.Kinds.{exchange_kinds}
-use Rattle.local_search.specs.inside.Turns.{kind_candidates}
-use Rattle.local_search.proofs.Nested.{stopped_item, tried_item, tried_items}
-use Rattle.local_search.proofs.Stops.{on_err, stage_own}
-use Rattle.local_search.proofs.Tries.{tried_none}
+use Rattle.local_search.specs.inside.Turns.{moving_candidates, putting_candidates}
+use Rattle.local_search.proofs.Stops.{on_err, stage_own, stopped_more, stopped_then, tried_then}
 use Rattle.local_search.proofs.each_kind.try_neighbour.Goals as goal
 
-pub loop-at-init : goal.loop-at-init
-loop-at-init g c = record { tried = tried_none _ _ _ _ _ c.requires.stage; moments = refl; kinds = c.requires.kinds; fits = c.requires.fits }
-
-pub try_kind-requires-clause-stage : goal.try_kind-requires-clause-stage
-try_kind-requires-clause-stage g c = stage_own _ _ _ c.loop-at.invariant.tried.stage
-
-pub loop-at-preserved : goal.loop-at-preserved
-loop-at-preserved g c =
-    let here : c.loop-at.at < length exchange_kinds = omega arith in
-    record {
-      tried = tried_item _ _ _ _ _ _ (kind_candidates c.args.client c.args.neighbour) exchange_kinds c.loop-at.at Exchange10 _ here c.loop-at.invariant.tried c.in_ok-try_kind.ensures.tried;
-      moments = c.in_ok-try_kind.ensures.moments ∙ c.loop-at.invariant.moments;
-      kinds = c.in_ok-try_kind.ensures.kinds;
-      fits = c.in_ok-try_kind.ensures.fits;
-    }
-
-pub returns-in_err-try_kind-clause-stopped : goal.returns-in_err-try_kind-clause-stopped
-returns-in_err-try_kind-clause-stopped g c =
-    let here : c.loop-at.at < length exchange_kinds = omega arith in
-    on_err c.from_residual.result
-    (stopped_item _ _ _ _ _ _ (kind_candidates c.args.client c.args.neighbour) exchange_kinds c.loop-at.at Exchange10 _ here c.loop-at.invariant.tried c.in_err-try_kind.ensures.stopped)
+pub try_putting-requires-clause-stage : goal.try_putting-requires-clause-stage
+try_putting-requires-clause-stage g c = stage_own _ _ _ c.in_ok-try_moving.ensures.tried.stage
 
 pub returns-clause-tried : goal.returns-clause-tried
 returns-clause-tried g c =
-    let all : length exchange_kinds ≤ c.loop-at.at = omega arith in
-    tried_items _ _ _ _ _ _ (kind_candidates c.args.client c.args.neighbour) exchange_kinds c.loop-at.at all c.loop-at.invariant.tried
+    tried_then _ _ _ _ (moving_candidates c.args.client c.args.neighbour) (putting_candidates c.args.client c.args.neighbour) _ _ _ c.in_ok-try_moving.ensures.tried c.in_ok-try_putting.ensures.tried
+
+pub returns-in_err-try_moving-clause-stopped : goal.returns-in_err-try_moving-clause-stopped
+returns-in_err-try_moving-clause-stopped g c =
+    on_err c.from_residual.result
+    (stopped_more _ _ (moving_candidates c.args.client c.args.neighbour) (putting_candidates c.args.client c.args.neighbour) _ _ c.in_err-try_moving.ensures.stopped)
+
+pub returns-in_err-try_putting-clause-stopped : goal.returns-in_err-try_putting-clause-stopped
+returns-in_err-try_putting-clause-stopped g c =
+    on_err c.from_residual-in_err-try_putting.result
+    (stopped_then _ _ _ _ (moving_candidates c.args.client c.args.neighbour) (putting_candidates c.args.client c.args.neighbour) _ _ _ c.in_ok-try_moving.ensures.tried c.in_err-try_putting.ensures.stopped)

@@ -1,5 +1,5 @@
 use Rattle.std.proofs.Common.{length}
-use Rattle.local_search.proofs.AfterMoves.{renew_more, renew_types, renew_unused}
+use Rattle.descent_memory.proofs.AfterMoves.{renew_more, renew_types, renew_unused}
 use Rattle.local_search.proofs.moves.renew_all.Goals as goal
 
 pub loop-vehicle_type-preserved : goal.loop-vehicle_type-preserved

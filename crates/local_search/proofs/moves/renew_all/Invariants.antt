@@ -1,5 +1,5 @@
 use Rattle.std.proofs.Common.{◌≡◌, length}
-use Rattle.local_search.specs.inside.Memories.{renewed_all}
+use Rattle.descent_memory.specs.Touching.{renewed_all}
 use Rattle.local_search.proofs.moves.renew_all.Given as goal
 
 -- the first types are renewed

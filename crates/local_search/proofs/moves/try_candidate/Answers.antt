@@ -1,5 +1,5 @@
 use Rattle.std.proofs.Common.{◌∙◌, true, map, []}
-use Rattle.search_model.specs.Kinds.{exchange_kinds}
+use Rattle.search_model.specs.Kinds.{all_kinds}
 use Rattle.local_search.proofs.Candidate.{gave_nothing}
 use Rattle.local_search.proofs.Rises.{rose_once}
 use Rattle.local_search.proofs.TakenMove.{kit_length, may_apply, same_moments, took}
@@ -21,5 +21,5 @@ returns-in_ok-take-in-Some-clause-moments g c =
 
 pub returns-in-None-clause-tried : goal.returns-in-None-clause-tried
 returns-in-None-clause-tried g c =
-    gave_nothing c.args.search.now.problem c.args.search.now.weights exchange_kinds true c.args.candidate c.args.search.now c.args.memory.now c.count.new.self _ _ c.requires.stage c.evaluate_at.ensures.tried
+    gave_nothing c.args.search.now.problem c.args.search.now.weights all_kinds true c.args.candidate c.args.search.now c.args.memory.now c.count.new.self _ _ c.requires.stage c.evaluate_at.ensures.tried
     c.count.new.self.tried c.count.ensures.same (rose_once c.args.memory.now.tried c.count.new.self.tried c.count.ensures.one) (rw c.in-None.is at c.evaluate_at.ensures.answer) c.evaluate_at.ensures.applied

@@ -1,50 +1,35 @@
-use Rattle.std.proofs.Common.{◌<◌, ◌≤◌, arith, sym, subst, get_or, length}
+use Rattle.std.proofs.Common.{◌∙◌}
 use Rattle.problem_data.specs.declared.problem.Problem.{Problem}
-use Rattle.search_model.specs.Kinds.{exchange_kinds}
-use Rattle.local_search.specs.Descents.{NamesPlaces}
-use Rattle.local_search.specs.inside.Turns.{turn_candidates}
-use Rattle.local_search.proofs.Keeping.{keeps_of, keeps_own}
-use Rattle.local_search.proofs.Nested.{stopped_item, tried_item, tried_items}
-use Rattle.local_search.proofs.Stops.{candidates_of_stopped, candidates_of_tried, on_err, stage_own}
-use Rattle.local_search.proofs.Tries.{tried_none}
+use Rattle.search_model.specs.Candidates.{client_candidates}
+use Rattle.local_search.specs.inside.Turns.{all_client_candidates, all_pair_candidates}
+use Rattle.local_search.proofs.Keeping.{keeps_after, pairs_after, pairs_of, pairs_own}
+use Rattle.local_search.proofs.Stops.{candidates_of_stopped, candidates_of_tried, on_err, stage_own, stopped_more, stopped_then, tried_of, tried_then}
 use Rattle.local_search.proofs.passes.pass.Goals as goal
 
-pub loop-client-init : goal.loop-client-init
-loop-client-init g c = record { tried = tried_none _ _ _ _ _ c.requires.stage; keeps = c.requires.keeps; kinds = c.requires.kinds; fits = c.requires.fits }
+pub pair_turns-requires-clause-stage : goal.pair_turns-requires-clause-stage
+pair_turns-requires-clause-stage g c = stage_own _ _ _ c.in_ok-client_turns.ensures.tried.stage
 
-pub turn-requires-clause-stage : goal.turn-requires-clause-stage
-turn-requires-clause-stage g c = stage_own _ _ _ c.loop-client.invariant.tried.stage
+pub pair_turns-requires-clause-pairs : goal.pair_turns-requires-clause-pairs
+pair_turns-requires-clause-pairs g c = pairs_own _ _ _ c.in_ok-client_turns.ensures.tried.stage (pairs_after _ _ _ _ _ _ _ c.in_ok-client_turns.ensures.tried c.in_ok-client_turns.ensures.moments c.requires.pairs)
 
-pub turn-requires-clause-keeps : goal.turn-requires-clause-keeps
-turn-requires-clause-keeps g c =
-    keeps_own _ _ (λ (p : Problem). turn_candidates p c.args.neighbours.now exchange_kinds) _ c.loop-client.invariant.tried.stage c.loop-client.invariant.keeps
+pub returns-in_err-client_turns-clause-stopped : goal.returns-in_err-client_turns-clause-stopped
+returns-in_err-client_turns-clause-stopped g c = on_err c.from_residual.result (stopped_more _ _ (all_client_candidates c.args.search.now.problem c.args.neighbours.now c.args.order.now) (all_pair_candidates c.args.search.now.problem) _ _ c.in_err-client_turns.ensures.stopped)
 
-pub turn-requires-clause-client : goal.turn-requires-clause-client
-turn-requires-clause-client g c = rw c.loop-client.invariant.tried.stage.problem (c.requires.order c.loop-client.client-index 0 (omega arith))
-
-pub turn-requires-clause-neighbours : goal.turn-requires-clause-neighbours
-turn-requires-clause-neighbours g c =
-    subst (λ (p : Problem). NamesPlaces p c.args.neighbours.now) (sym c.loop-client.invariant.tried.stage.problem) c.requires.neighbours
-
-pub loop-client-preserved : goal.loop-client-preserved
-loop-client-preserved g c =
-    let here : c.loop-client.client-index < length c.args.order.now = omega arith in
-    record {
-      tried = tried_item _ _ _ _ _ _ (turn_candidates c.args.search.now.problem c.args.neighbours.now exchange_kinds) c.args.order.now c.loop-client.client-index 0 _ here c.loop-client.invariant.tried
-          (candidates_of_tried (λ (p : Problem). turn_candidates p c.args.neighbours.now exchange_kinds (get_or c.args.order.now c.loop-client.client-index 0)) c.loop-client.invariant.tried.stage c.in_ok-turn.ensures.tried);
-      keeps = keeps_of _ _ (λ (p : Problem). turn_candidates p c.args.neighbours.now exchange_kinds) _ _ c.loop-client.invariant.tried.stage c.in_ok-turn.ensures.keeps;
-      kinds = c.in_ok-turn.ensures.kinds;
-      fits = c.in_ok-turn.ensures.fits;
-    }
-
-pub returns-in_err-turn-clause-stopped : goal.returns-in_err-turn-clause-stopped
-returns-in_err-turn-clause-stopped g c =
-    let here : c.loop-client.client-index < length c.args.order.now = omega arith in
-    on_err c.from_residual.result
-    (stopped_item _ _ _ _ _ _ (turn_candidates c.args.search.now.problem c.args.neighbours.now exchange_kinds) c.args.order.now c.loop-client.client-index 0 _ here c.loop-client.invariant.tried
-    (candidates_of_stopped (λ (p : Problem). turn_candidates p c.args.neighbours.now exchange_kinds (get_or c.args.order.now c.loop-client.client-index 0)) c.loop-client.invariant.tried.stage c.in_err-turn.ensures.stopped))
+pub returns-in_err-pair_turns-clause-stopped : goal.returns-in_err-pair_turns-clause-stopped
+returns-in_err-pair_turns-clause-stopped g c =
+    on_err c.from_residual-in_err-pair_turns.result
+    (stopped_then _ _ _ _ (all_client_candidates c.args.search.now.problem c.args.neighbours.now c.args.order.now) (all_pair_candidates c.args.search.now.problem) _ _ _ c.in_ok-client_turns.ensures.tried
+    (candidates_of_stopped (λ (p : Problem). all_pair_candidates p) c.in_ok-client_turns.ensures.tried.stage c.in_err-pair_turns.ensures.stopped))
 
 pub returns-clause-tried : goal.returns-clause-tried
 returns-clause-tried g c =
-    let all : length c.args.order.now ≤ c.loop-client.client-index = omega arith in
-    tried_items _ _ _ _ _ _ (turn_candidates c.args.search.now.problem c.args.neighbours.now exchange_kinds) c.args.order.now c.loop-client.client-index all c.loop-client.invariant.tried
+    tried_then _ _ _ _ (all_client_candidates c.args.search.now.problem c.args.neighbours.now c.args.order.now) (all_pair_candidates c.args.search.now.problem) _ _ _ c.in_ok-client_turns.ensures.tried (candidates_of_tried (λ (p : Problem). all_pair_candidates p) c.in_ok-client_turns.ensures.tried.stage c.in_ok-pair_turns.ensures.tried)
+
+pub returns-clause-keeps : goal.returns-clause-keeps
+returns-clause-keeps g c =
+    keeps_after _ _ _ _ (all_pair_candidates c.args.search.now.problem) _ _
+    (tried_of _ _ _ _ _ _ _ c.in_ok-client_turns.ensures.tried.stage (candidates_of_tried (λ (p : Problem). all_pair_candidates p) c.in_ok-client_turns.ensures.tried.stage c.in_ok-pair_turns.ensures.tried))
+    (client_candidates c.args.search.now.problem c.args.neighbours.now) c.in_ok-pair_turns.ensures.moments c.in_ok-client_turns.ensures.keeps
+
+pub returns-clause-pairs : goal.returns-clause-pairs
+returns-clause-pairs g c = pairs_of _ _ _ _ c.in_ok-client_turns.ensures.tried.stage c.in_ok-pair_turns.ensures.pairs

@@ -1,17 +1,17 @@
 use Rattle.std.proofs.Common.{◌≡◌, map, All, length, take}
 use Rattle.std.specs.List.{range_with_len}
 use Rattle.std.specs.Prelude.{flat_map}
-use Rattle.search_model.specs.Kinds.{exchange_kinds}
+use Rattle.search_model.specs.Candidates.{unused_candidates}
+use Rattle.search_model.specs.Kinds.{all_kinds}
 use Rattle.local_search.specs.inside.Stages.{Tried, stage_of}
-use Rattle.local_search.specs.inside.Turns.{unused_candidates}
 use Rattle.local_search.proofs.turns.type_turn.Given as goal
 
 -- the first types were tried
 abbrev pub invariant-loop-vehicle_type : goal.invariant-loop-vehicle_type
 invariant-loop-vehicle_type g l = record {
-  tried : Tried l.fn.search.problem l.fn.search.weights exchange_kinds l.each (flat_map (unused_candidates exchange_kinds l.client) (take l.vehicle_type (range_with_len 0 (length l.fn.search.problem.types))))
+  tried : Tried l.fn.search.problem l.fn.search.weights all_kinds l.each (flat_map (unused_candidates l.client) (take l.vehicle_type (range_with_len 0 (length l.fn.search.problem.types))))
       (stage_of l.fn.search l.fn.memory (map (λ b. (goal.Operator-dyn g (b.vtable, b.value)).tally_of b.value) l.fn.kit)) (stage_of l.search l.memory (map (λ b. (goal.Operator-dyn g (b.vtable, b.value)).tally_of b.value) l.kit));
   moments : l.memory.moments ≡ l.fn.memory.moments;
-  kinds : map (λ b. (goal.Operator-dyn g (b.vtable, b.value)).kind_of b.value) l.kit ≡ exchange_kinds;
+  kinds : map (λ b. (goal.Operator-dyn g (b.vtable, b.value)).kind_of b.value) l.kit ≡ all_kinds;
   fits : All (λ b. (goal.Operator-dyn g (b.vtable, b.value)).fits b.value l.search.problem l.search.routes l.search.weights) l.kit;
 }

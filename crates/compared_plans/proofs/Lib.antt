@@ -1,0 +1,3 @@
+pub mod ComparedItems
+pub mod NearNumbers
+pub mod NearSteps

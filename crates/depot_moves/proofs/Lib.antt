@@ -1,0 +1,4 @@
+pub mod BestGains
+pub mod LeastPlans
+pub mod PutAnswers
+pub mod TriedPuts

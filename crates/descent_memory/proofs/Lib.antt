@@ -1,0 +1,3 @@
+pub mod AfterMoves
+pub mod PairPlaces
+pub mod Touching

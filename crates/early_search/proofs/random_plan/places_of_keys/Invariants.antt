@@ -1,6 +1,0 @@
-use Rattle.std.proofs.Common.{◌≡◌, map, take}
-use Rattle.early_search.proofs.random_plan.places_of_keys.Given as goal
-
--- the places so far are those of the first keys
-abbrev pub invariant-loop-key : goal.invariant-loop-key
-invariant-loop-key l = l.places.items ≡ map (λ key. key.1) (take l.key-index l.keys)

@@ -1,0 +1,33 @@
+use Rattle.std.proofs.Common.{◌∙◌, ◌<◌, ◌≤◌, arith, refl}
+use Rattle.local_search.specs.inside.Turns.{kind_candidates}
+use Rattle.local_search.proofs.Nested.{stopped_number, tried_number, tried_numbers}
+use Rattle.local_search.proofs.Stops.{on_err, stage_own}
+use Rattle.local_search.proofs.Tries.{tried_none}
+use Rattle.local_search.proofs.each_kind.try_moves.Goals as goal
+
+pub loop-at-init : goal.loop-at-init
+loop-at-init g c = record { tried = tried_none _ _ _ _ _ c.requires.stage; moments = refl; kinds = c.requires.kinds; fits = c.requires.fits }
+
+pub try_kind-requires-clause-stage : goal.try_kind-requires-clause-stage
+try_kind-requires-clause-stage g c = stage_own _ _ _ c.loop-at.invariant.tried.stage
+
+pub loop-at-preserved : goal.loop-at-preserved
+loop-at-preserved g c =
+    let here : c.loop-at.at < 12 = omega arith in
+    record {
+      tried = tried_number _ _ _ _ _ _ (kind_candidates c.args.client c.args.neighbour) 12 c.loop-at.at _ here c.loop-at.invariant.tried c.in_ok-try_kind.ensures.tried;
+      moments = c.in_ok-try_kind.ensures.moments ∙ c.loop-at.invariant.moments;
+      kinds = c.in_ok-try_kind.ensures.kinds;
+      fits = c.in_ok-try_kind.ensures.fits;
+    }
+
+pub returns-in_err-try_kind-clause-stopped : goal.returns-in_err-try_kind-clause-stopped
+returns-in_err-try_kind-clause-stopped g c =
+    let here : c.loop-at.at < 12 = omega arith in
+    on_err c.from_residual.result
+    (stopped_number _ _ _ _ _ _ (kind_candidates c.args.client c.args.neighbour) 12 c.loop-at.at _ here c.loop-at.invariant.tried c.in_err-try_kind.ensures.stopped)
+
+pub returns-clause-tried : goal.returns-clause-tried
+returns-clause-tried g c =
+    let all : 12 ≤ c.loop-at.at = omega arith in
+    tried_numbers _ _ _ _ _ _ (kind_candidates c.args.client c.args.neighbour) 12 c.loop-at.at all c.loop-at.invariant.tried

@@ -1,0 +1,2 @@
+-- Words that only invariants, private contracts and proofs cite.
+pub mod Counts

@@ -1,0 +1,3 @@
+pub mod ComparedEntries
+pub mod FilledEntries
+pub mod MutualPairs

@@ -1,0 +1,3 @@
+pub mod FallingRanks
+pub mod Ranks
+pub mod WeighedSums

@@ -1,0 +1,4 @@
+pub mod DrawnKeys
+pub mod GroupMarks
+pub mod RandomPlans
+pub mod WalkSteps

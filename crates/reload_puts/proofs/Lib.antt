@@ -1,0 +1,11 @@
+pub mod EndingLists
+pub mod PlansAgain
+pub mod PutListsAfter
+pub mod PutListsBefore
+pub mod PutPlans
+pub mod ReloadPuts
+pub mod SeatedClients
+pub mod TidyBehindClients
+pub mod TidyPutsAfter
+pub mod TidyPutsBefore
+pub mod TidyWithout

@@ -1,0 +1,4 @@
+pub mod inside
+pub mod PutLists
+pub mod Puts
+pub mod Seats

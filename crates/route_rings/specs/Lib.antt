@@ -1,0 +1,4 @@
+pub mod inside
+pub mod Marks
+pub mod Rings
+pub mod Selections

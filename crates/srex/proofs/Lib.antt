@@ -1,0 +1,4 @@
+pub mod Children
+pub mod DrawnExchanges
+pub mod Orders
+pub mod SelectedRoutes

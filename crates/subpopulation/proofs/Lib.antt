@@ -1,0 +1,2 @@
+pub mod KeptCosts
+pub mod Purged
