@@ -1,0 +1,4 @@
+pub mod AddedPlans
+pub mod ScoredPlans
+pub mod SecondParents
+pub mod SelectedPlans

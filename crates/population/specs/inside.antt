@@ -1,0 +1,3 @@
+-- Words that only invariants, private contracts and proofs cite.
+pub mod Scores
+pub mod Seconds

@@ -1,0 +1,3 @@
+pub mod JoinedRises
+pub mod OneDescent
+pub mod OrderedPlaces
