@@ -23,8 +23,12 @@ two_names = refl
 seed_too_large : asked (codes "--seed" ∷ codes "4294967296" ∷ codes "--max_iterations" ∷ codes "0" ∷ codes "three.vrp" ∷ []) ≡ None
 seed_too_large = refl
 
-two_iterations : asked (codes "--seed" ∷ codes "1" ∷ codes "--max_iterations" ∷ codes "2" ∷ codes "three.vrp" ∷ []) ≡ None
-two_iterations = refl
+most_iterations : asked (codes "--seed" ∷ codes "1" ∷ codes "--max_iterations" ∷ codes "1000000000" ∷ codes "three.vrp" ∷ [])
+    ≡ Some (record { seed = 1; iterations = 1000000000; path = codes "three.vrp" })
+most_iterations = refl
+
+too_many_iterations : asked (codes "--seed" ∷ codes "1" ∷ codes "--max_iterations" ∷ codes "1000000001" ∷ codes "three.vrp" ∷ []) ≡ None
+too_many_iterations = refl
 
 no_number : asked (codes "--seed" ∷ codes "" ∷ codes "--max_iterations" ∷ codes "0" ∷ codes "three.vrp" ∷ []) ≡ None
 no_number = refl

@@ -3,8 +3,10 @@ pub use Rattle.outside_model.specs.Files
 pub use Rattle.problem_data.specs.Places
 pub use Rattle.routing_model.specs.Best
 pub use Rattle.random_model.specs.RandomSolution
+pub use Rattle.genetic_model.specs.Run
 pub use Rattle.vrp_texts.specs.Printed
 pub mod Command
-pub mod EarlySearch
+pub mod Kits
 pub mod Outcomes
+pub mod PlainSearch
 pub mod Words

@@ -2,6 +2,7 @@
 use Rattle.std.specs.Prelude.{ℕ, Bool, true, false, ⊤, List, [], Option, Some, None, option_map, Result, Ok, Err, pos, codes}
 use Rattle.outside_model.specs.Files.{Load, failed, too_long, loaded}
 use Rattle.problem_data.specs.declared.problem.Problem.{Problem}
+use Rattle.vrp_num.specs.declared.rounding.Rounding.{Rounding}
 use Rattle.vrp_num.specs.declared.rounding.Rounding.TheVariants.{Round}
 use Rattle.vrplib_model.specs.declared.refusal.Refusal.{Refusal}
 use Rattle.vrplib_model.specs.Reading.{read}
@@ -30,11 +31,15 @@ abbrev pub outcome_of_reading : Search → Result Problem Refusal → Outcome
 outcome_of_reading search (Ok problem) = solved problem (search problem)
 outcome_of_reading search (Err refusal) = refused refusal
 
--- what comes of a load
+-- what comes of a load whose text is read in a mode
+abbrev pub outcome_in : Rounding → Search → Load → Outcome
+outcome_in mode search failed = unreadable
+outcome_in mode search too_long = oversized
+outcome_in mode search (loaded text) = outcome_of_reading search (read mode text)
+
+-- the same, distances rounded to the nearest
 abbrev pub outcome_of : Search → Load → Outcome
-outcome_of search failed = unreadable
-outcome_of search too_long = oversized
-outcome_of search (loaded text) = outcome_of_reading search (read Round text)
+outcome_of search load = outcome_in Round search load
 
 -- a plan that was found is lawful, within every limit, and costs what is said, by all weights
 abbrev pub IsFeasibleOutcome : Outcome → Type 0

@@ -16,7 +16,7 @@ largest_seed = 2 ^ 32 - 1
 
 -- the greatest number of iterations
 abbrev pub most_iterations : ℕ
-most_iterations = 1
+most_iterations = 1000000000
 
 -- one digit or more
 abbrev pub is_numeral : List ℕ → Bool

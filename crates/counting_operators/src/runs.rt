@@ -90,12 +90,15 @@ fn asks_an_operator_of_ones_own_and_drops_it_once(rt: HostRuntime) -> Result<(),
     files.set("three.vrp", THREE.as_bytes())?;
     let mut out = MemorySink::new(alloc, 500)?;
     let mut err = MemorySink::new(alloc, 500)?;
-    let status = run_command(&rt, alloc, words, &mut files, &mut out, &mut err, kits);
+    let (status, used) = run_command(&rt, alloc, words, &mut files, &mut out, &mut err, kits);
     assert_eq!(rt; status, 0);
     assert_eq!(rt; out.written(), OUTPUT.as_bytes());
+    assert_eq!(rt; used.len(), 1);
     assert!(rt; of_first.evaluations.load(SeqCst) > 0);
-    assert_eq!(rt; of_first.drops.load(SeqCst), 1);
+    assert_eq!(rt; of_first.drops.load(SeqCst), 0);
     assert_eq!(rt; of_others.evaluations.load(SeqCst), 0);
     assert_eq!(rt; of_others.drops.load(SeqCst), 4);
+    drop(used);
+    assert_eq!(rt; of_first.drops.load(SeqCst), 1);
     Ok(())
 }

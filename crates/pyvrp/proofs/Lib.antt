@@ -1,3 +1,3 @@
-pub mod FoundAnswers
 pub mod Paths
 pub mod Runs
+pub mod SolvedOutcomes

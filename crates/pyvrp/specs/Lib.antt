@@ -2,8 +2,10 @@ pub use Rattle.outside_model.specs.Delivery
 pub use Rattle.outside_model.specs.Sinks
 pub use Rattle.batch_run.specs.Loads
 pub use Rattle.command_model.specs.Command
-pub use Rattle.command_model.specs.EarlySearch
+pub use Rattle.command_model.specs.Kits
 pub use Rattle.command_model.specs.Outcomes
+pub use Rattle.command_model.specs.PlainSearch
 pub use Rattle.command_model.specs.Words
 pub mod inside
 pub mod Run
+pub mod Solving

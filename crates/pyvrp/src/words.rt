@@ -1,11 +1,12 @@
 //! The words of the command.
-ghost use Rattle.std.specs.Prelude.{◌≡◌, ◌==◌, ◌<◌, IfSome, length, map, option_map, string_bytes};
+ghost use Rattle.std.specs.Prelude.{◌≡◌, ◌==◌, ◌<◌, ◌≤◌, IfSome, length, map, option_map, string_bytes};
 ghost use Rattle.std.specs.List.{after_last};
+ghost use Rattle.pyvrp.specs.Solving.{iteration_limit};
 ghost use Rattle.pyvrp.specs.inside.Asked.{shown};
 ghost use Rattle.command_model.specs.Words.{are_option_names, asked, asked_by, base_name, is_option_like, number_up_to, without_ending, word_at};
 
 /// The most iterations that may be asked for.
-const MOST_ITERATIONS: u32 = 1;
+const MOST_ITERATIONS: u32 = 1_000_000_000;
 
 /// What the words ask for.
 #[derive(Clone, Copy, Debug)]
@@ -44,7 +45,8 @@ fn are_option_names(first: &str, second: &str) -> bool
 
 /// What a seed, a number of iterations and a path ask for, where they are right.
 fn asked_by<'a>(seed: &str, iterations: &str, path: &'a str) -> Option<Asked<'a>>
-    ensures { option_map shown result ≡ asked_by seed.now iterations.now path.entry.now }
+    ensures asked { option_map shown result ≡ asked_by seed.now iterations.now path.entry.now }
+    ensures few { IfSome result (λ a. a.iterations ≤ iteration_limit) }
 {
     if is_option_like(path) {
         return None;
@@ -72,6 +74,7 @@ fn word_at(words: &[String], k: usize) -> &str
 pub fn read_words(words: &[String]) -> Option<Asked<'_>>
     ensures asked { option_map shown result ≡ asked (map string_bytes words.entry.now) }
     ensures five { IfSome result (λ _. length words.entry.now ≡ 5) }
+    ensures few { IfSome result (λ a. a.iterations ≤ iteration_limit) }
 {
     if words.len() != 5 {
         return None;

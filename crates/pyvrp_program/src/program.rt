@@ -5,7 +5,7 @@ ghost use Rattle.batch_run.specs.Loads.{files_of};
 ghost use Rattle.search_model.specs.Kinds.{all_kinds};
 ghost use Rattle.command_model.specs.Words.{asked};
 ghost use Rattle.exchange_screens.specs.Exchanges.{exchange_kind};
-ghost use Rattle.pyvrp.specs.Run.{Runs};
+ghost use Rattle.pyvrp.specs.Run.{RunsWithKits};
 
 use batch_run::{Files, Sink};
 use depot_moves::{DepotAfter, DepotBefore};
@@ -33,7 +33,7 @@ fn run<R: Threads + Sync, F: Files, O: Sink, E: Sink>(
     out: &mut O,
     err: &mut E,
 ) -> Result<u8, NoMemory>
-    ensures runs { IfOk result (λ status. status ≢ 3 → Runs (asked (map string_bytes words.items))
+    ensures runs { IfOk result (λ status. status ≢ 3 → RunsWithKits (asked (map string_bytes words.items))
         (files_of (F.holding files.old) (F.holding files.new) (F.faults files.old) (F.faults files.new))
         (sink_of (O.written out.old) (O.written out.new) (O.faults out.old) (O.faults out.new))
         (sink_of (E.written err.old) (E.written err.new) (E.faults err.old) (E.faults err.new)) status) }
@@ -76,7 +76,8 @@ fn run<R: Threads + Sync, F: Files, O: Sink, E: Sink>(
         kits.push(Vec::from_array(alloc, operators)?)?;
     }
     are_kits_for(kits.as_slice(), words.len());
-    Ok(run_command(rt, alloc, words, files, out, err, kits))
+    let (status, _used) = run_command(rt, alloc, words, files, out, err, kits);
+    Ok(status)
 }
 
 /// Runs the command with a kit of an operator of each kind for each word. See `run_command`, whose clauses these are.
@@ -90,7 +91,7 @@ pub fn run_program<R: Threads + Sync, F: Files, O: Sink, E: Sink>(
     out: &mut O,
     err: &mut E,
 ) -> u8
-    ensures runs { result ≢ 3 → Runs (asked (map string_bytes words.items))
+    ensures runs { result ≢ 3 → RunsWithKits (asked (map string_bytes words.items))
         (files_of (F.holding files.old) (F.holding files.new) (F.faults files.old) (F.faults files.new))
         (sink_of (O.written out.old) (O.written out.new) (O.faults out.old) (O.faults out.new))
         (sink_of (E.written err.old) (E.written err.new) (E.faults err.old) (E.faults err.new)) result }

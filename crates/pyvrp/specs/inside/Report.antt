@@ -1,31 +1,19 @@
 -- What the program keeps of an instance, and what it stands for.
-use Rattle.std.specs.Prelude.{◌≡◌, ⊤, ℕ, ℤ, ◌++◌, List, [], ◌∷◌, Option, Some, None, option_map, unwrap_or, pos}
+use Rattle.std.specs.Prelude.{◌≡◌, ⊤, ℕ, ℤ, ◌++◌, List, [], ◌∷◌, Option, Some, None, option_map}
 use Rattle.problem_data.specs.declared.problem.Problem.{Problem}
 use Rattle.problem_data.specs.declared.problem.Solution.{Solution}
-use Rattle.early_search.specs.declared.search.Found.{Found as SearchFound}
-use Rattle.routing_model.specs.Best.{Best, Found}
-use Rattle.vrplib_read.specs.declared.read_fault.ReadFault.{ReadFault}
-use Rattle.vrplib_read.specs.declared.read_fault.ReadFault.TheVariants as fault
+use Rattle.genetic.specs.declared.found.Found.{Found as SearchFound}
 use Rattle.routing_model.specs.Routes.{Routes}
 use Rattle.vrp_texts.specs.Printed.{solution_text}
 use Rattle.command_model.specs.Outcomes as model
-use Rattle.command_model.specs.Outcomes.{program, text_of_best}
+use Rattle.command_model.specs.Outcomes.{program}
+use Rattle.pyvrp.specs.Solving.{Tells}
 use Rattle.command_model.specs.Command.{effects_of}
 use Rattle.vrp_texts.specs.FaultLines.{long_line, refused_line, unread_line}
 use Rattle.vrp_texts.specs.Tables.{found_row, none_row, refused_row}
 use Rattle.pyvrp.specs.declared.outcome.Answer.{Answer}
-use Rattle.pyvrp.specs.declared.outcome.Outcome.{Outcome}
-use Rattle.pyvrp.specs.declared.outcome.Outcome.TheVariants.{Unreadable, Oversized, Refused, Solved}
-
--- the cost of the best plan, if any
-abbrev pub cost_of_best : Option Best → Option ℤ
-cost_of_best best = option_map (λ (b : Best). pos b.cost) best
-
--- the cost, the text and the iterations of what was found for a problem
-pub record Tells (problem : Problem) (found : Found) (answer : Answer) : Type 0 where
-  pub cost : answer.cost ≡ cost_of_best found.best
-  pub text : answer.text ≡ unwrap_or (text_of_best problem found.best) []
-  pub iterations : answer.iterations ≡ found.iterations
+use Rattle.pyvrp.specs.declared.outcome.Instance.{Instance}
+use Rattle.pyvrp.specs.declared.outcome.Instance.TheVariants.{Unreadable, Oversized, Refused, Solved}
 
 -- the text of a plan with its cost, where there are both
 abbrev pub text_with : Problem → Option Routes → Option ℤ → List ℕ
@@ -40,8 +28,8 @@ plan_found found = option_map (λ (solution : Solution). solution.routes) found.
 abbrev pub answer_with : Problem → SearchFound → Answer
 answer_with p found = record { cost = found.cost; text = text_with p (plan_found found) found.cost; iterations = found.iterations }
 
--- the program's outcome stands for one of the definitions
-abbrev pub StandsFor : model.Outcome → Outcome → Type 0
+-- what the program keeps of an instance stands for an outcome of the definitions
+abbrev pub StandsFor : model.Outcome → Instance → Type 0
 StandsFor model.unreadable Unreadable = ⊤
 StandsFor model.oversized Oversized = ⊤
 StandsFor (model.refused refusal) (Refused shown) = shown ≡ refusal
@@ -53,7 +41,7 @@ abbrev pub text_of_cost : Option ℤ → List ℕ → List ℕ
 text_of_cost None text = []
 text_of_cost (Some cost) text = text ++ 10 ∷ []
 
-abbrev pub text_shown : Outcome → List ℕ
+abbrev pub text_shown : Instance → List ℕ
 text_shown (Solved answer) = text_of_cost answer.cost answer.text
 text_shown _ = []
 
@@ -62,7 +50,7 @@ abbrev pub row_of_cost : List ℕ → Option ℤ → ℕ → List ℕ
 row_of_cost name None iterations = none_row name iterations
 row_of_cost name (Some cost) iterations = found_row name cost iterations
 
-abbrev pub row_shown : List ℕ → Outcome → List ℕ
+abbrev pub row_shown : List ℕ → Instance → List ℕ
 row_shown name (Solved answer) = row_of_cost name answer.cost answer.iterations
 row_shown name _ = refused_row name
 
@@ -71,35 +59,30 @@ abbrev pub count_of_cost : Option ℤ → ℕ
 count_of_cost None = 0
 count_of_cost (Some cost) = 1
 
-abbrev pub count_shown : Outcome → ℕ
+abbrev pub count_shown : Instance → ℕ
 count_shown (Solved answer) = count_of_cost answer.cost
 count_shown _ = 0
 
 -- the line of the fault
-abbrev pub fault_shown : List ℕ → Outcome → List ℕ
+abbrev pub fault_shown : List ℕ → Instance → List ℕ
 fault_shown name Unreadable = unread_line program name
 fault_shown name Oversized = long_line program name
 fault_shown name (Refused refusal) = refused_line program name refusal
 fault_shown name (Solved answer) = []
 
 -- the status
-abbrev pub status_shown : Outcome → ℕ
+abbrev pub status_shown : Instance → ℕ
 status_shown (Solved answer) = 0
 status_shown _ = 1
 
 -- the text is the output of every outcome that the program's stands for
-abbrev pub TellsOutput : List ℕ → Outcome → List ℕ → Type 0
+abbrev pub TellsOutput : List ℕ → Instance → List ℕ → Type 0
 TellsOutput name shown text = (outcome : model.Outcome) → StandsFor outcome shown → text ≡ (effects_of ((name, outcome) ∷ [])).out
 
 -- the text is its errors
-abbrev pub TellsErrors : List ℕ → Outcome → List ℕ → Type 0
+abbrev pub TellsErrors : List ℕ → Instance → List ℕ → Type 0
 TellsErrors name shown text = (outcome : model.Outcome) → StandsFor outcome shown → text ≡ (effects_of ((name, outcome) ∷ [])).err
 
 -- the number is its status
-abbrev pub TellsStatus : Outcome → ℕ → Type 0
+abbrev pub TellsStatus : Instance → ℕ → Type 0
 TellsStatus shown status = (name : List ℕ) (outcome : model.Outcome) → StandsFor outcome shown → status ≡ (effects_of ((name, outcome) ∷ [])).status
-
--- the outcome is a refusal, the one that the reader gave
-abbrev pub IsRefusalOf : ReadFault → Outcome → Type 0
-IsRefusalOf (fault.Refused refusal) (Refused shown) = shown ≡ refusal
-IsRefusalOf _ _ = ⊥

@@ -41,3 +41,7 @@ loop-preserved g c =
       kinds = subst (All (λ kit. map (λ b. ((dyn-1-ghosts (own-1, lawful-own-1, sends-own-1)).0.entry b.vtable).1.kind_of b.value) kit.items ≡ all_kinds)) (sym c.in_ok-push.ensures.items)
           (All-append (λ kit. map (λ b. ((dyn-1-ghosts (own-1, lawful-own-1, sends-own-1)).0.entry b.vtable).1.kind_of b.value) kit.items ≡ all_kinds) c.loop.kits.items (c.in_ok-from_array.field-0 ∷ []) c.loop.invariant.kinds (All-cons (λ kit. map (λ b. ((dyn-1-ghosts (own-1, lawful-own-1, sends-own-1)).0.entry b.vtable).1.kind_of b.value) kit.items ≡ all_kinds) c.in_ok-from_array.field-0 [] kit (All-nil (λ kit. map (λ b. ((dyn-1-ghosts (own-1, lawful-own-1, sends-own-1)).0.entry b.vtable).1.kind_of b.value) kit.items ≡ all_kinds))));
     }
+
+-- the command's answer, with the kits that were handed in and back
+pub returns-clause-runs : goal.returns-clause-runs
+returns-clause-runs g c = λ not_three. (_, _, c.run_command-status.ensures.runs not_three)

@@ -1,2 +1,0 @@
-pub mod FoundPlans
-pub mod OrderedPlaces

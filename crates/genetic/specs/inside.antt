@@ -1,0 +1,2 @@
+-- Words that only private contracts, invariants and proofs cite.
+pub mod Runs
