@@ -1,0 +1,1 @@
+"""Reading instances and solutions, driving routes and calling the program: what the tools share."""
